@@ -1,0 +1,5 @@
+pub mod Refusals
+pub mod Names
+pub mod Commands
+pub mod Reading
+pub mod Recipes

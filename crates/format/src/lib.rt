@@ -1,0 +1,9 @@
+// The byte format of recipes: its commands, the reader that takes them from bytes and the writer that puts them there.
+pub mod command;
+pub mod refusal;
+
+pub use command::Command;
+pub use command::Opcode;
+pub use command::Rule;
+pub use refusal::RecipeError;
+pub use refusal::Refusal;
