@@ -1,3 +1,4 @@
 pub mod Spelling
 pub mod Roundtrip
 pub mod Recipe
+pub mod Firsts

@@ -5,13 +5,14 @@ use mathlib.Core.List.{List, [], _∷_, _++_}
 use Prim.Native.Nat.{ℕ, zero, suc, _+_, _-_, _<_, _≤_}
 use native.Mathlib.Omega.{arith}
 use lib.Dec.{eqb, leb}
-use lib.ListN.{length, drop, take, replicate}
-use Rattle.std.proofs.shelf.Tests.{and-parts, and-from, cond-true, cond-false, eqb-true, eqb-false, le-leb, leb-true, cond-both, true≢false, cases-bool}
-use Rattle.std.proofs.shelf.Lists.{length-append, length-replicate, take-at}
+use lib.ListN.{length, getD, drop, take, replicate}
+use Rattle.std.proofs.shelf.Tests.{and-parts, and-from, cond-true, cond-false, eqb-true, eqb-false, eq-eqb, ne-eqb, le-leb, leb-true, cond-both, true≢false, cases-bool}
+use Rattle.std.proofs.shelf.Lists.{length-append, length-replicate, take-at, take-take, drop-more, drop-all}
+use Rattle.std.proofs.shelf.Parts.{between-is}
 use Rattle.std.proofs.shelf.Ways.{tells}
 use Rattle.format.specs.Names.{capital, name-byte, all-bytes, spelled, well-formed, field, before-zero, holds-name}
 
-abbrev is-zero : ℕ → Bool
+abbrev pub is-zero : ℕ → Bool
 is-zero b = eqb b 0
 
 -- no byte of a name is zero
@@ -78,3 +79,45 @@ pub held-well-formed : (bs : List ℕ) → holds-name bs ≡ true → well-forme
 held-well-formed bs h =
     and-from _ _ (and-parts (spelled (before-zero bs)) _ h .0)
     (le-leb _ _ (omega (arith, ap length (split bs), length-append (before-zero bs) (drop (length (before-zero bs)) bs))))
+
+-- ---- the loops over bytes: what is left to test decides the rest
+module _ (test : ℕ → Bool) (bs : List ℕ) (i : ℕ) (left : all-bytes test (drop i bs) ≡ all-bytes test bs) where
+  pub all-more : i < length bs → test (getD bs i 0) ≡ true → all-bytes test (drop (i + 1) bs) ≡ all-bytes test bs
+  all-more l h = sym (ap (λ t. t && all-bytes test (drop (i + 1) bs)) h) ∙ sym (ap (all-bytes test) (drop-more bs i 0 l)) ∙ left
+
+  pub all-fails : i < length bs → test (getD bs i 0) ≡ false → false ≡ all-bytes test bs
+  all-fails l h = sym (ap (λ t. t && all-bytes test (drop (i + 1) bs)) h) ∙ sym (ap (all-bytes test) (drop-more bs i 0 l)) ∙ left
+
+  pub all-passed : length bs ≤ i → true ≡ all-bytes test bs
+  all-passed l = sym (ap (all-bytes test) (drop-all i bs l)) ∙ left
+
+module _ (bs : List ℕ) (i : ℕ) (left : i + length (before-zero (drop i bs)) ≡ length (before-zero bs)) where
+  here : i < length bs → before-zero (drop i bs) ≡ before-zero (getD bs i 0 ∷ drop (i + 1) bs)
+  here l = ap before-zero (drop-more bs i 0 l)
+
+  pub before-more : i < length bs → (getD bs i 0 ≡ 0 → ⊥) → i + 1 + length (before-zero (drop (i + 1) bs)) ≡ length (before-zero bs)
+  before-more l h =
+      let e = ap length (here l ∙ cond-false (is-zero (getD bs i 0)) _ _ (ne-eqb (getD bs i 0) 0 h)) in
+      omega arith
+
+  pub before-found : i < length bs → getD bs i 0 ≡ 0 → i ≡ length (before-zero bs)
+  before-found l h =
+      let e : length (before-zero (drop i bs)) ≡ 0 = ap length (here l ∙ cond-true (is-zero (getD bs i 0)) _ _ (eq-eqb (getD bs i 0) 0 h)) in
+      omega arith
+
+  pub before-all : length bs ≤ i → i ≡ length (before-zero bs)
+  before-all l = let e : length (before-zero (drop i bs)) ≡ 0 = ap (λ t. length (before-zero t)) (drop-all i bs l) in omega arith
+
+-- ---- a name in the field of w bytes at the front of bytes
+name-front : (bs : List ℕ) → take (length (before-zero bs)) bs ≡ before-zero bs
+name-front bs = ap (take (length (before-zero bs))) (sym (split bs)) ∙ take-at (before-zero bs) _ _ refl
+
+module _ (bs : List ℕ) (w n : ℕ) (is : n ≡ length (before-zero (take w bs))) (le : n ≤ w) where
+  pub name-read-is : take (n - 0) bs ≡ before-zero (take w bs)
+  name-read-is = let e : n - 0 ≡ n = omega arith in ap (λ k. take k bs) e ∙ sym (take-take n w bs le) ∙ ap (λ k. take k (take w bs)) is ∙ name-front (take w bs)
+
+  fill-is : take (w - n) (drop n bs) ≡ drop (length (before-zero (take w bs))) (take w bs)
+  fill-is = between-is bs n w ∙ ap (λ k. drop k (take w bs)) is
+
+  pub holds-is : holds-name (take w bs) ≡ (spelled (take (n - 0) bs) && all-bytes is-zero (take (w - n) (drop n bs)))
+  holds-is = sym (λ i. spelled (name-read-is i) && all-bytes is-zero (fill-is i))

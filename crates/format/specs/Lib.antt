@@ -3,3 +3,4 @@ pub mod Names
 pub mod Commands
 pub mod Reading
 pub mod Recipes
+pub mod Values

@@ -1,5 +1,7 @@
 // The byte format of recipes: its commands, the reader that takes them from bytes and the writer that puts them there.
 pub mod command;
+pub mod name;
+mod parse;
 pub mod refusal;
 
 pub use command::Command;

@@ -15,11 +15,11 @@ pub number-eight : (n : ℕ) → n < 2 ^ 64 → number (eight n) ≡ n
 number-eight n h = omega arith
 
 -- the n elements from place i on, written out
-abbrev from-place : ℕ → ℕ → List ℕ → List ℕ
+abbrev pub from-place : ℕ → ℕ → List ℕ → List ℕ
 from-place i zero bs = []
 from-place i (suc n) bs = getD bs i 0 ∷ from-place (i + 1) n bs
 
-written-out : (i n : ℕ) (bs : List ℕ) → length bs ≡ i + n → drop i bs ≡ from-place i n bs
+pub written-out : (i n : ℕ) (bs : List ℕ) → length bs ≡ i + n → drop i bs ≡ from-place i n bs
 written-out i zero bs l = drop-all i bs (omega arith)
 written-out i (suc n) bs l = drop-more bs i 0 (omega arith) ∙ ap (λ t. getD bs i 0 ∷ t) (written-out (i + 1) n bs (omega arith))
 

@@ -1,0 +1,63 @@
+-- What the program's own values mean. Assumes nothing: these are definitions.
+use mathlib.Core.Path.{_≡_}
+use mathlib.Core.List.{List, [], _∷_}
+use Prim.Native.Nat.{ℕ, suc, _+_}
+use denote.Ref.{RefT}
+use lib.ListN.{length}
+use Rattle.std.specs.declared.result.Result.{Result}
+use Rattle.std.specs.declared.result.Result.the-variants.{Ok, Err}
+use Rattle.format.specs.Commands.{Word, wire, machine, rule, par, hide, unless, refine, end, encode, today}
+use Rattle.format.specs.Reading.{Read, got, refused}
+use Rattle.format.specs.declared.command.Command.{Command}
+use Rattle.format.specs.declared.command.Command.the-variants.{Wire, Machine, Rule, Par, Hide, Unless, Refine, End}
+use Rattle.format.specs.declared.command.Rule.{Rule as Rules}
+use Rattle.format.specs.declared.refusal.Refusal.{Refusal}
+use Rattle.format.specs.declared.refusal.RecipeError.{RecipeError}
+
+-- a rule by the values of its operands
+abbrev pub rule-word : Rules → Word
+rule-word r = rule (r .from) (r .to) (r .present .bits) (r .absent .bits) (r .emits .bits)
+
+-- a command by the values of its operands
+abbrev pub word : Command → Word
+word (Wire name) = wire (name .now)
+word (Machine states) = machine states
+word (Rule r) = rule-word r
+word Par = par
+word (Hide hidden) = hide (hidden .bits)
+word (Unless w) = unless w
+word (Refine stage) = refine stage
+word End = end
+
+-- An address is a block of memory and an offset in it.
+abbrev pub Address : Type 0
+Address = ℕ × ℕ
+
+abbrev pub behind : Address → ℕ → Address
+behind place n = (place .0, n + place .1)
+
+-- A command whose operands begin at an address: the name of a WIRE is the bytes that stand there, and no copy of them.
+abbrev pub Lies : Address → Command → Type 0
+Lies place (Wire name) = name .ptr ≡ place
+Lies place (Machine states) = Unit {0}
+Lies place (Rule r) = Unit {0}
+Lies place Par = Unit {0}
+Lies place (Hide hidden) = Unit {0}
+Lies place (Unless w) = Unit {0}
+Lies place (Refine stage) = Unit {0}
+Lies place End = Unit {0}
+
+-- what reading a name answers, told as a read of bytes
+abbrev pub name-read : Result (RefT (List ℕ)) Refusal → Read
+name-read (Ok name) = got (wire (name .now)) (suc (today .width))
+name-read (Err e) = refused e
+
+-- what reading a command of n bytes answers, told as a read of bytes
+abbrev pub command-read : ℕ → Result Command Refusal → Read
+command-read n (Ok c) = got (word c) n
+command-read n (Err e) = refused e
+
+-- the same where the answer has the number of bytes
+abbrev pub counted-read : Result (Command × ℕ) Refusal → Read
+counted-read (Ok p) = got (word (p .0)) (p .1)
+counted-read (Err e) = refused e
