@@ -1,4 +1,5 @@
 pub mod Spelling
 pub mod Roundtrip
-pub mod Recipe
+pub mod Readings
+pub mod Keeping
 pub mod Firsts

@@ -1,13 +1,16 @@
 -- What the program's own values mean. Assumes nothing: these are definitions.
 use mathlib.Core.Path.{_≡_}
 use mathlib.Core.List.{List, [], _∷_}
+use mathlib.Core.Logic.{_⊎_}
 use Prim.Native.Nat.{ℕ, suc, _+_}
 use denote.Ref.{RefT}
 use lib.ListN.{length}
+use Rattle.std.specs.declared.option.Option.the-variants.{Some}
 use Rattle.std.specs.declared.result.Result.{Result}
 use Rattle.std.specs.declared.result.Result.the-variants.{Ok, Err}
-use Rattle.format.specs.Commands.{Word, wire, machine, rule, par, hide, unless, refine, end, encode, today}
-use Rattle.format.specs.Reading.{Read, got, refused}
+use Rattle.format.specs.Commands.{Word, wire, machine, rule, par, hide, unless, refine, end, encode, extent, today}
+use Rattle.format.specs.Refusals.{out-of-memory}
+use Rattle.format.specs.Reading.{Read, got, refused, Reading}
 use Rattle.format.specs.declared.command.Command.{Command}
 use Rattle.format.specs.declared.command.Command.the-variants.{Wire, Machine, Rule, Par, Hide, Unless, Refine, End}
 use Rattle.format.specs.declared.command.Rule.{Rule as Rules}
@@ -61,3 +64,27 @@ command-read n (Err e) = refused e
 abbrev pub counted-read : Result (Command × ℕ) Refusal → Read
 counted-read (Ok p) = got (word (p .0)) (p .1)
 counted-read (Err e) = refused e
+
+-- what one read of a recipe answers, told by the values of the operands
+abbrev pub words-told : Result Command RecipeError → Result Word RecipeError
+words-told (Ok c) = Ok (word c)
+words-told (Err e) = Err e
+
+-- what a read at a position has to answer
+abbrev pub answer : ℕ → Read → Result Word RecipeError
+answer position (got w n) = Ok w
+answer position (refused r) = Err (record { refusal = r; position = position })
+
+-- the bytes that a read takes
+abbrev pub taken : Read → ℕ
+taken (got w n) = n
+taken (refused r) = 0
+
+-- The refusal with which a reading ended, at the sum of the lengths of the commands before it; or want of memory.
+abbrev pub Refused-by : Reading → RecipeError → Type 0
+Refused-by r e = ((r .ending ≡ Some (e .refusal)) × (e .position ≡ extent today (r .words))) ⊎ (e ≡ out-of-memory)
+
+-- commands that stand end to end from an address on, each name within its own
+abbrev pub Lie : Address → List Command → Type 0
+Lie place [] = Unit {0}
+Lie place (c ∷ cs) = Lies (behind place 1) c × Lie (behind place (length (encode today (word c)))) cs

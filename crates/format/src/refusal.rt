@@ -1,6 +1,8 @@
 // Why bytes are no recipe, or a command was not written.
 ghost use mathlib.Core.Path.{_≡_};
-ghost use Rattle.format.specs.Refusals.{number};
+ghost use Rattle.format.specs.Refusals.{number, out-of-memory};
+use std::alloc::AllocError;
+use std::alloc::Refused;
 
 #[derive(Clone, Copy, PartialEq, Eq, Debug)]
 pub enum Refusal {
@@ -48,4 +50,20 @@ impl Refusal {
 pub struct RecipeError {
     pub refusal: Refusal,
     pub position: usize,
+}
+
+pub impl From<AllocError> for RecipeError as RecipeErrorFromAlloc {
+    ghost converts = { λ _ r. r ≡ out-of-memory };
+
+    fn from(_error: AllocError) -> RecipeError {
+        RecipeError { refusal: Refusal::OutOfMemory, position: 0 }
+    }
+}
+
+pub impl<T: Drop> From<Refused<T>> for RecipeError as RecipeErrorFromRefused {
+    ghost converts = { λ _ r. r ≡ out-of-memory };
+
+    fn from(_error: Refused<T>) -> RecipeError {
+        RecipeError { refusal: Refusal::OutOfMemory, position: 0 }
+    }
 }
