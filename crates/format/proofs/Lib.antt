@@ -3,3 +3,4 @@ pub mod Roundtrip
 pub mod Readings
 pub mod Keeping
 pub mod Firsts
+pub mod Outputs

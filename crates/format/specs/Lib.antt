@@ -4,3 +4,5 @@ pub mod Commands
 pub mod Reading
 pub mod Recipes
 pub mod Values
+pub mod Writing
+pub mod Writers
