@@ -58,7 +58,7 @@ read-refused form [] r e = let same : EndOfBytes ≡ r = cc in ap (λ x. record 
 read-refused form (b ∷ bs) r e = ap (λ (r : Read). elim r [ got w n ↦ before w (read-from form (n - 1) bs) | refused r ↦ record { words = []; ending = Some r } ]) e
 
 -- ---- commands that are written are read back
-end-only : (w : Word) → is-end w ≡ true → w ≡ end
+pub end-only : (w : Word) → is-end w ≡ true → w ≡ end
 end-only (Word.wire name) e = absurd (true≢false (sym e))
 end-only (Word.machine n) e = absurd (true≢false (sym e))
 end-only (Word.rule f t p a m) e = absurd (true≢false (sym e))

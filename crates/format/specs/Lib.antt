@@ -6,3 +6,5 @@ pub mod Recipes
 pub mod Values
 pub mod Writing
 pub mod Writers
+pub mod Rewriting
+pub mod Pens

@@ -3,10 +3,12 @@ pub mod command;
 mod encode;
 pub mod name;
 mod parse;
+mod pen;
 pub mod read;
 pub mod reader;
 pub mod recipe;
 pub mod refusal;
+pub mod rewrite;
 pub mod writer;
 
 pub use command::Command;
