@@ -1,11 +1,10 @@
 -- The first refusal of a recipe that is to be rewritten, found command by command. Assumes nothing.
-use mathlib.Core.Path.{_≡_, refl, sym, ap, subst, _∙_}
-use mathlib.Core.Bool.{Bool, true, false, cond, not, _&&_}
-use mathlib.Core.List.{List, [], _∷_, _++_}
-use Prim.Native.Nat.{ℕ, zero, suc, _+_, _<_, _≤_}
+use mathlib.Core.Path.{_≡_, sym, ap, subst, _∙_}
+use mathlib.Core.Bool.{Bool, true, false}
+use mathlib.Core.List.{List}
+use Prim.Native.Nat.{ℕ, _+_, _<_, _≤_}
 use native.Mathlib.Omega.{arith}
 use lib.ListN.{length, drop}
-use Rattle.std.specs.shelf.Lists.{All}
 use Rattle.std.specs.declared.option.Option.{Option}
 use Rattle.std.specs.declared.option.Option.the-variants.{Some, None}
 use Rattle.std.proofs.shelf.Elements.{all-drop}
@@ -14,8 +13,7 @@ use Rattle.std.proofs.shelf.Tests.{cond-true, cond-false, cond-both}
 use Rattle.format.specs.Commands.{Word, encode, today}
 use Rattle.format.specs.Reading.{got, refused, first-read, is-end, before, Reading, read-all}
 use Rattle.format.specs.Recipes.{Bytes}
-use Rattle.format.specs.Rewriting.{is-rule, opens, misplaced, first-refusal, refusal-of}
-use Rattle.format.specs.declared.refusal.Refusal.{Refusal}
+use Rattle.format.specs.Rewriting.{opens, misplaced, first-refusal, refusal-of}
 use Rattle.format.specs.declared.refusal.Refusal.the-variants.{MisplacedRule}
 use Rattle.format.specs.declared.refusal.RecipeError.{RecipeError}
 use Rattle.format.proofs.Roundtrip.{Taken, Sound, first-sound}
@@ -68,8 +66,8 @@ module _ (bs rest : List ℕ) (position : ℕ) (within : Bool) (h : Clear bs res
           let at : position + length (encode today w) ≡ position′ = omega (arith, clear-taken .long) in
           record {
             same = step
-              ∙ ap (refusal-from position within) (cond-false (is-end w) _ _ e)
-              ∙ cond-false (misplaced within w) _ _ placed
-              ∙ (λ i. refusal-from (at i) (sym o i) (read-all today (sym r i)));
+                ∙ ap (refusal-from position within) (cond-false (is-end w) _ _ e)
+                ∙ cond-false (misplaced within w) _ _ placed
+                ∙ (λ i. refusal-from (at i) (sym o i) (read-all today (sym r i)));
             bytes = subst Bytes (sym r) (all-drop (λ b. b < 256) n rest (h .bytes));
           }

@@ -1,29 +1,27 @@
 -- Writing what is read: the output so far is the recipe so far. Assumes nothing.
-use mathlib.Core.Path.{_≡_, refl, sym, ap, subst, _∙_}
-use mathlib.Core.Bool.{Bool, true, false, cond}
-use mathlib.Core.List.{List, [], _∷_, _++_, append-nil, append-assoc}
+use mathlib.Core.Path.{_≡_, refl, sym, ap, _∙_}
+use mathlib.Core.Bool.{Bool, true, false}
+use mathlib.Core.List.{List, _++_, append-assoc}
 use mathlib.Core.Logic.{⊎-elim}
-use Prim.Native.Nat.{ℕ, zero, suc, _+_, _-_, _<_, _≤_}
+use Prim.Native.Nat.{ℕ, _+_, _≤_}
 use native.Mathlib.Omega.{arith}
 use lib.ListN.{length, take, drop}
-use Rattle.std.specs.declared.option.Option.{Option}
 use Rattle.std.specs.declared.option.Option.the-variants.{Some, None}
-use Rattle.std.specs.declared.result.Result.{Result}
 use Rattle.std.specs.declared.result.Result.the-variants.{Ok, Err}
-use Rattle.std.proofs.shelf.Lists.{drop-drop, drop-take, length-append, length-drop, length-take-le, take-all, take-append-drop, take-at, take-take, drop-all, drop-at}
+use Rattle.std.proofs.shelf.Lists.{drop-drop, drop-take, length-append, length-drop, length-take-le, take-all, take-append-drop, take-at, take-take, drop-at}
 use Rattle.std.proofs.shelf.Tests.{cond-true, cond-false, cases-bool, le-leb}
 use Rattle.format.specs.Commands.{Word, wire, machine, rule, par, hide, unless, refine, end, encode, Fitting, today}
 use Rattle.format.specs.Pens.{with-state, pen-answer, pen-output}
-use Rattle.format.specs.Reading.{got, refused, first-read, is-end, read-all}
+use Rattle.format.specs.Reading.{got, refused, first-read, is-end}
 use Rattle.format.specs.Recipes.{Bytes}
 use Rattle.format.specs.Rewriting.{opens, misplaced, refusal-of}
-use Rattle.format.specs.Writing.{placed, fits, put-answer, put-output, well-named, write-answer, written}
+use Rattle.format.specs.Writing.{placed, fits, well-named, write-answer, written}
 use Rattle.format.specs.declared.refusal.Refusal.{Refusal}
 use Rattle.format.specs.declared.refusal.RecipeError.{RecipeError}
 use Rattle.format.proofs.Variants.{ok-not-err, same-ok}
 use Rattle.format.proofs.Roundtrip.{Taken}
 use Rattle.format.proofs.Readings.{end-only}
-use Rattle.format.proofs.Checking.{Clear, clear-start, clear-refused, clear-taken, clear-within, clear-misplaced, clear-end, clear-more}
+use Rattle.format.proofs.Checking.{Clear, clear-start, clear-refused, clear-taken, clear-within, clear-misplaced, clear-more}
 
 fitting-named : (w : Word) → Fitting today w → well-named w ≡ true
 fitting-named (wire name) h = h
@@ -57,7 +55,7 @@ placed-front bs out piece m n le long is =
     let front = take m bs in
     let fl : length front ≡ m = let l : m ≤ length bs = omega arith in length-take-le m bs l in
     let past : drop (m + length piece) (front ++ drop m out) ≡ drop (m + n) out =
-        ap (λ k. drop (m + k) (front ++ drop m out)) long ∙ sym (drop-drop n m (front ++ drop m out)) ∙ ap (drop n) (drop-at front (drop m out) m fl) ∙ drop-drop n m out in
+    ap (λ k. drop (m + k) (front ++ drop m out)) long ∙ sym (drop-drop n m (front ++ drop m out)) ∙ ap (drop n) (drop-at front (drop m out) m fl) ∙ drop-drop n m out in
     (λ i. take-at front (drop m out) m fl i ++ (is i ++ past i))
     ∙ sym (append-assoc front (take n (drop m bs)) (drop (m + n) out))
     ∙ ap (λ t. t ++ drop (m + n) out) (take-more-bytes bs m n)

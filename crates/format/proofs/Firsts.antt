@@ -1,19 +1,16 @@
 -- The first command of bytes that are not empty. Assumes nothing.
-use mathlib.Core.Path.{_≡_, refl, sym, ap, _∙_}
-use mathlib.Core.List.{List, [], _∷_}
+use mathlib.Core.Path.{_≡_, ap, _∙_}
+use mathlib.Core.List.{List}
 use Prim.Native.Nat.{ℕ, _<_, _≤_}
-use native.Mathlib.Omega.{arith}
-use lib.Dec.{leb}
 use lib.ListN.{length, getD}
 use Rattle.std.specs.Holes.{between}
 use Rattle.std.specs.declared.option.Option.{Option}
-use Rattle.std.specs.declared.option.Option.the-variants.{Some, None}
+use Rattle.std.specs.declared.option.Option.the-variants.{Some}
 use Rattle.std.proofs.shelf.Parts.{first-rest}
-use Rattle.std.proofs.shelf.Tests.{cond-true, cond-false, le-leb, lt-leb}
+use Rattle.std.proofs.shelf.Tests.{cond-true, le-leb}
 use Rattle.format.specs.Commands.{Form, size, command-of}
-use Rattle.format.specs.Reading.{refused, first-read, command-read, operands-read}
+use Rattle.format.specs.Reading.{first-read, command-read, operands-read}
 use Rattle.format.specs.declared.command.Opcode.{Opcode}
-use Rattle.format.specs.declared.refusal.Refusal.the-variants.{MissingOperands}
 
 module _ (form : Form) (bs : List ℕ) (some : 0 < length bs) (o : Option Opcode) (is : command-of form (getD bs 0 0) ≡ o) where
   pub first-command : first-read form bs ≡ command-read form o (between 1 (length bs) bs)

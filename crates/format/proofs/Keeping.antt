@@ -1,28 +1,25 @@
 -- Keeping the commands of a recipe as they are read: what is known so far, and one command more. Assumes nothing.
 use mathlib.Core.Path.{_≡_, refl, sym, ap, subst, _∙_}
-use mathlib.Core.Bool.{Bool, true, false, cond}
+use mathlib.Core.Bool.{true, false}
 use mathlib.Core.List.{List, [], _∷_, _++_, map, append-nil, append-assoc}
-use mathlib.Core.Logic.{_⊎_, inl, inr}
-use Prim.Native.Nat.{ℕ, zero, suc, _+_, _<_, _≤_}
+use mathlib.Core.Logic.{inl}
+use Prim.Native.Nat.{ℕ, _+_, _<_, _≤_}
 use native.Mathlib.Omega.{arith}
 use denote.Ref.{RefT}
 use lib.ListN.{length, getD, drop}
 use mir.Syntax.{w8}
 use mir.Val.{Fits}
-use Rattle.std.specs.shelf.Lists.{All}
-use Rattle.std.specs.declared.option.Option.the-variants.{Some, None}
-use Rattle.std.specs.declared.result.Result.{Result}
+use Rattle.std.specs.declared.option.Option.the-variants.{None}
 use Rattle.std.specs.declared.result.Result.the-variants.{Ok, Err}
 use Rattle.std.proofs.shelf.Elements.{all-drop, all-from-getD}
 use Rattle.std.proofs.shelf.Lists.{joined-more, length-append, map-append}
 use Rattle.std.proofs.shelf.Tests.{cond-true, cond-false}
-use Rattle.format.specs.Commands.{Word, end, encode, encode-all, extent, today}
-use Rattle.format.specs.Reading.{Read, got, refused, first-read, is-end, before, Reading, read-all}
-use Rattle.format.specs.Recipes.{Bytes, Not-end, followed}
-use Rattle.format.specs.Values.{Address, behind, word, Lies, Lie, answer, taken, Refused-by}
+use Rattle.format.specs.Commands.{Word, encode, encode-all, extent, today}
+use Rattle.format.specs.Reading.{Read, got, refused, first-read, is-end, before, read-all}
+use Rattle.format.specs.Recipes.{Bytes, followed}
+use Rattle.format.specs.Values.{Address, behind, word, Lies, Lie, answer, Refused-by}
 use Rattle.format.specs.declared.command.Command.{Command}
 use Rattle.format.specs.declared.command.Command.the-variants.{Wire, Machine, Rule, Par, Hide, Unless, Refine, End}
-use Rattle.format.specs.declared.refusal.Refusal.{Refusal}
 use Rattle.format.specs.declared.refusal.RecipeError.{RecipeError}
 use Rattle.format.proofs.Roundtrip.{Taken, Sound, first-sound}
 use Rattle.format.proofs.Readings.{read-step, read-refused}
@@ -100,10 +97,10 @@ module _ (bs : List ℕ) (place : Address) (rest : RefT (List ℕ)) (position : 
     pub one-more : (rest′ : RefT (List ℕ)) (position′ : ℕ) → is-end (word c) ≡ false → rest′ .now ≡ drop n (rest .now) → rest′ .ptr ≡ behind (rest .ptr) n → position′ ≡ position + n → Sofar bs place rest′ position′ (cs ++ c ∷ [])
     one-more rest′ position′ not same from at = record {
       read = on
-        ∙ ap (followed (map word cs)) (cond-false (is-end (word c)) _ _ not)
-        ∙ ap (λ t. record { words = t; ending = read-all today (drop n (rest .now)) .ending }) (sym (append-assoc (map word cs) (word c ∷ []) (read-all today (drop n (rest .now)) .words)))
-        ∙ ap (λ t. followed t (read-all today (drop n (rest .now)))) (sym (words-more cs c))
-        ∙ ap (λ t. followed (map word (cs ++ c ∷ [])) (read-all today t)) (sym same);
+          ∙ ap (followed (map word cs)) (cond-false (is-end (word c)) _ _ not)
+          ∙ ap (λ t. record { words = t; ending = read-all today (drop n (rest .now)) .ending }) (sym (append-assoc (map word cs) (word c ∷ []) (read-all today (drop n (rest .now)) .words)))
+          ∙ ap (λ t. followed t (read-all today (drop n (rest .now)))) (sym (words-more cs c))
+          ∙ ap (λ t. followed (map word (cs ++ c ∷ [])) (read-all today t)) (sym same);
       at = let w : extent today (map word (cs ++ c ∷ [])) ≡ extent today (map word cs) + length (encode today (word c)) = ap (extent today) (words-more cs c) ∙ extent-more (map word cs) (word c) in omega (arith, so .at, taken-here .long);
       from = from ∙ ap (λ p. behind p n) (so .from) ∙ behind-behind place position n ∙ ap (behind place) (sym at);
       names = names-more;

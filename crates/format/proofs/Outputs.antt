@@ -1,12 +1,11 @@
 -- Bytes put into an output. Assumes nothing.
 use mathlib.Core.Path.{_≡_, refl, sym, ap, subst, _∙_}
-use mathlib.Core.Bool.{true, false}
+use mathlib.Core.Bool.{true}
 use mathlib.Core.List.{List, [], _∷_, _++_, append-assoc, append-nil}
-use Prim.Native.Nat.{ℕ, zero, suc, _+_, _-_, _<_, _≤_}
+use Prim.Native.Nat.{ℕ, zero, suc, _+_, _-_, _≤_}
 use native.Mathlib.Omega.{arith}
 use borrow.Rule.Slice.PartMut.{putMid}
 use lib.ListN.{length, take, drop, replicate}
-use Rattle.std.specs.shelf.Lists.{All}
 use Rattle.std.specs.Vec.{made}
 use Rattle.std.specs.declared.result.Result.{Result}
 use Rattle.std.specs.declared.result.Result.the-variants.{Ok, Err}
@@ -16,7 +15,7 @@ use Rattle.std.proofs.shelf.Tests.{cond-both, cond-true, leb-true}
 use Rattle.format.specs.Commands.{Word, end, encode, encode-all, Fitting, Proper, today}
 use Rattle.format.specs.Reading.{got, first-read, read-all}
 use Rattle.format.specs.Recipes.{Not-end}
-use Rattle.format.specs.Writing.{placed, fits, put-answer, put-output, well-named, write-answer, written, Holds, Wrote, Ended-with}
+use Rattle.format.specs.Writing.{placed, fits, put-answer, put-output, well-named, write-answer, written, Wrote, Ended-with}
 use Rattle.format.specs.Writers.{answered, finished}
 use Rattle.format.specs.declared.refusal.Refusal.{Refusal}
 use Rattle.format.specs.declared.refusal.Refusal.the-variants.{MalformedName, NoSpace}
@@ -59,9 +58,9 @@ accepted w at before end-at after e o =
     let bytes = encode today w in
     let no : (r : Refusal) → Ok end-at ≡ Err r → ⊥ = λ r q. let z : _≡_ {A = ℕ} 0 1 = cc in omega arith in
     let inner : well-named w ≡ true → Ok end-at ≡ put-answer at bytes before → after ≡ put-output at bytes before → Accepted w at before end-at after = λ n.
-        cond-both (fits at bytes before) (Ok (at + length bytes)) (Err NoSpace) (λ x. Ok end-at ≡ x → after ≡ put-output at bytes before → Accepted w at before end-at after)
-        (λ f q p. let same : end-at ≡ at + length bytes = cc in record { named = n; room = leb-true _ _ f; behind = same; output = p ∙ cond-true (fits at bytes before) _ _ f })
-        (λ _ q _. absurd (no NoSpace q)) in
+    cond-both (fits at bytes before) (Ok (at + length bytes)) (Err NoSpace) (λ x. Ok end-at ≡ x → after ≡ put-output at bytes before → Accepted w at before end-at after)
+    (λ f q p. let same : end-at ≡ at + length bytes = cc in record { named = n; room = leb-true _ _ f; behind = same; output = p ∙ cond-true (fits at bytes before) _ _ f })
+    (λ _ q _. absurd (no NoSpace q)) in
     cond-both (well-named w) (put-answer at bytes before) (Err MalformedName) (λ x. Ok end-at ≡ x → Accepted w at before end-at after)
     (λ n q. inner n q (o ∙ cond-true (well-named w) _ _ n))
     (λ _ q. absurd (no MalformedName q))
@@ -104,8 +103,8 @@ module _ {S W : Type 0} (next : ℕ → S) (place : S → ℕ) (same : (n : ℕ)
   answer-law : (Law : ℕ → Type 0) → ((n : ℕ) → Accepted w at before n after → Law n) → made r (λ s. Law (place s))
   answer-law Law law =
       let go : (a : Result ℕ Refusal) → a ≡ write-answer w at before → made (answered next writer a) (λ s. Law (place s)) = elim [
-        Ok n ↦ λ e. subst Law (sym (same n)) (law n (accepted w at before n after e output))
-      | Err x ↦ λ _. tt
+        | Ok n ↦ λ e. subst Law (sym (same n)) (law n (accepted w at before n after e output))
+        | Err x ↦ λ _. tt
       ] in
       subst (λ x. made x (λ s. Law (place s))) (sym value) (go (write-answer w at before) refl)
 

@@ -1,5 +1,5 @@
 -- Rules that stand straight behind a MACHINE or a RULE are not refused. Assumes nothing.
-use mathlib.Core.Path.{_≡_, refl, sym, ap, subst, _∙_}
+use mathlib.Core.Path.{_≡_, refl, ap, _∙_}
 use mathlib.Core.Bool.{Bool, true, false, not, _&&_}
 use mathlib.Core.List.{List, [], _∷_, _++_}
 use mathlib.Core.Logic.{_⊎_, inl, inr, ⊎-elim}
@@ -7,7 +7,7 @@ use Prim.Native.Nat.{ℕ, _+_}
 use native.Mathlib.Omega.{arith}
 use lib.ListN.{length}
 use Rattle.std.specs.declared.option.Option.the-variants.{None}
-use Rattle.std.proofs.shelf.Tests.{cond-false, cases-bool, and-left, not-from-true}
+use Rattle.std.proofs.shelf.Tests.{cond-false, cases-bool, and-left}
 use Rattle.format.specs.Commands.{Word, encode, today}
 use Rattle.format.specs.Reading.{read-all}
 use Rattle.format.specs.Rewriting.{is-rule, opens, misplaced, first-refusal, refusal-of, Rules-placed}
@@ -29,9 +29,9 @@ nothing-opened (earlier, v, e, o) = none earlier e
 
 head-placed : (within : Bool) (w : Word) (ws : List Word) → Placed within (w ∷ ws) → misplaced within w ≡ false
 head-placed within w ws h = ⊎-elim
-  (λ r. ⊎-elim (λ p. ap (λ b. is-rule w && not b) (p .1) ∙ never (is-rule w)) (λ o. absurd (nothing-opened o)) (h [] w ws refl r))
-  (λ f. and-left (is-rule w) (not within) f)
-  (cases-bool (is-rule w))
+    (λ r. ⊎-elim (λ p. ap (λ b. is-rule w && not b) (p .1) ∙ never (is-rule w)) (λ o. absurd (nothing-opened o)) (h [] w ws refl r))
+    (λ f. and-left (is-rule w) (not within) f)
+    (cases-bool (is-rule w))
   where
     never : (b : Bool) → (b && not true) ≡ false
     never true = refl
@@ -43,9 +43,9 @@ split-last w front (x ∷ earlier) v e o = let b : front ≡ earlier ++ v ∷ []
 
 tail-placed : (within : Bool) (w : Word) (ws : List Word) → Placed within (w ∷ ws) → Placed (opens w) ws
 tail-placed within w ws h front x rest e r = ⊎-elim
-  (λ p. absurd (omega (arith, ap length (p .0))))
-  (λ o. split-last w front (o .0) (o .1) (o .2) (o .3))
-  (h (w ∷ front) x rest (ap (λ t. w ∷ t) e) r)
+    (λ p. absurd (omega (arith, ap length (p .0))))
+    (λ o. split-last w front (o .0) (o .1) (o .2) (o .3))
+    (h (w ∷ front) x rest (ap (λ t. w ∷ t) e) r)
 
 placed-clear : (at : ℕ) (within : Bool) (ws : List Word) → Placed within ws → first-refusal at within ws None ≡ None
 placed-clear at within [] h = refl

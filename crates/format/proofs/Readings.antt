@@ -1,28 +1,27 @@
 -- Whole recipes: what reading to the end comes to. Assumes nothing.
 use mathlib.Core.Path.{_≡_, refl, sym, ap, subst, _∙_}
-use mathlib.Core.Bool.{Bool, true, false, cond}
+use mathlib.Core.Bool.{true, false, cond}
 use mathlib.Core.List.{List, [], _∷_, _++_, append-nil, append-assoc}
 use Prim.Native.Nat.{ℕ, zero, suc, _+_, _-_, _<_, _≤_}
 use native.Mathlib.Nat.{zero-add, suc-add}
-use native.Mathlib.Numerals.{add-one, one-add, sub-one}
+use native.Mathlib.Numerals.{sub-one}
 use native.Mathlib.Omega.{arith}
 use lib.Dec.{eqb, leb}
-use lib.ListN.{length, getD, drop, take}
-use Rattle.std.specs.Joined.{joined}
+use lib.ListN.{length, drop, take}
 use Rattle.std.specs.shelf.Lists.{All}
 use Rattle.std.specs.declared.option.Option.{Option}
 use Rattle.std.specs.declared.option.Option.the-variants.{Some, None}
 use Rattle.std.proofs.shelf.Tests.{cond-true, cond-false, le-leb, leb-true, cond-both, true≢false}
 use Rattle.std.proofs.shelf.Elements.{all-drop}
-use Rattle.std.proofs.shelf.Lists.{joined-more, length-append, length-take-le, length-drop, take-at, drop-at, take-append-drop}
+use Rattle.std.proofs.shelf.Lists.{joined-more, length-append, length-take-le, length-drop, take-at, drop-at}
 use Rattle.format.specs.Names.{before-zero, holds-name}
-use Rattle.format.specs.Commands.{Form, Word, end, opcode, size, opcode-of, if-had, command-of, encode, encode-all, extent, Proper}
+use Rattle.format.specs.Commands.{Form, Word, end, opcode, size, command-of, encode, encode-all, extent, Proper}
 use Rattle.format.specs.Reading.{Read, got, refused, operands-read, command-read, first-read, is-end, before, Reading, read-from, read-all}
-use Rattle.format.specs.Recipes.{Bytes, Not-end, Complete, Stopped, Ended, named, named-operands, settled, Whole, followed, Read-back}
+use Rattle.format.specs.Recipes.{Bytes, Not-end, Stopped, Ended, named, named-operands, settled, Whole, followed, Read-back}
 use Rattle.format.specs.declared.command.Opcode.{Opcode}
 use Rattle.format.specs.declared.command.Opcode.the-variants.{Wire, Machine, Rule, Par, Hide, Unless, Refine, End}
 use Rattle.format.specs.declared.refusal.Refusal.{Refusal}
-use Rattle.format.specs.declared.refusal.Refusal.the-variants.{EndOfBytes, UnknownCommand, MissingOperands, MalformedName, BytesAfterEnd}
+use Rattle.format.specs.declared.refusal.Refusal.the-variants.{EndOfBytes, MissingOperands, MalformedName, BytesAfterEnd}
 use Rattle.format.proofs.Roundtrip.{Taken, Sound, first-encoded, first-sound}
 
 -- ---- one command on
@@ -137,7 +136,7 @@ module _ (form : Form) where
   ended-by zero (b ∷ bs) l s = absurd (omega arith)
   ended-by (suc n) (b ∷ bs) l s =
       let more : (k : ℕ) → 0 < k → Ends (drop k (b ∷ bs)) (read-all form (drop k (b ∷ bs))) =
-          λ k h. ended-by n (drop k (b ∷ bs)) (omega (arith, length-drop k (b ∷ bs))) (all-drop (λ x. x < 256) k (b ∷ bs) s) in
+      λ k h. ended-by n (drop k (b ∷ bs)) (omega (arith, length-drop k (b ∷ bs))) (all-drop (λ x. x < 256) k (b ∷ bs) s) in
       ended-first (b ∷ bs) more (first-read form (b ∷ bs)) refl (first-sound form (b ∷ bs) s)
 
   pub ended : (bs : List ℕ) → Bytes bs → Ends bs (read-all form bs)
@@ -168,11 +167,11 @@ module _ (form : Form) where
   command-blind (Some k) bs t e s q =
       cond-both (leb (size form k) (length bs)) (operands-read form k bs) (refused MissingOperands) (λ x. x ≡ refused e → command-read form (Some k) (take (size form k) bs ++ t) ≡ refused e)
       (λ l p.
-          let enough = leb-true _ _ l in
-          let long = length-append (take (size form k) bs) t in
-          let whole = length-take-le (size form k) bs enough in
-          let still : size form k ≤ length (take (size form k) bs ++ t) = omega arith in
-          cond-true _ _ _ (le-leb _ _ still) ∙ operands-blind k bs t e enough s p)
+      let enough = leb-true _ _ l in
+      let long = length-append (take (size form k) bs) t in
+      let whole = length-take-le (size form k) bs enough in
+      let still : size form k ≤ length (take (size form k) bs ++ t) = omega arith in
+      cond-true _ _ _ (le-leb _ _ still) ∙ operands-blind k bs t e enough s p)
       (λ _ p. absurd (unsettled MissingOperands e p refl s))
       q
 
@@ -190,7 +189,7 @@ module _ (form : Form) where
       let at : drop p bs ≡ h .behind = ap (drop p) (sym (h .split)) ∙ drop-at (encode-all form ws) (h .behind) p refl in
       let n = named form (h .behind) in
       let cut : take (p + named form (drop p bs)) bs ≡ encode-all form ws ++ take n (h .behind) =
-          ap (λ x. take (p + named form x) bs) at ∙ ap (take (p + n)) (sym (h .split)) ∙ take-past (encode-all form ws) (h .behind) n in
+      ap (λ x. take (p + named form x) bs) at ∙ ap (take (p + n)) (sym (h .split)) ∙ take-past (encode-all form ws) (h .behind) n in
       let rest = take n (h .behind) ++ t in
       ap (λ x. read-all form (x ++ t)) cut
       ∙ ap (read-all form) (append-assoc (encode-all form ws) (take n (h .behind)) t)

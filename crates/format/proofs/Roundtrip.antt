@@ -1,21 +1,21 @@
 -- One command: reading what was encoded, and encoding what was read. Assumes nothing.
 use mathlib.Core.Path.{_≡_, refl, sym, ap, subst, _∙_}
-use mathlib.Core.Bool.{Bool, true, false, cond, _&&_}
-use mathlib.Core.List.{List, [], _∷_, _++_, append-nil, append-assoc}
-use Prim.Native.Nat.{ℕ, zero, suc, _+_, _-_, _<_, _≤_, _^_}
+use mathlib.Core.Bool.{Bool, true, false, cond}
+use mathlib.Core.List.{List, [], _∷_, _++_, append-assoc}
+use Prim.Native.Nat.{ℕ, suc, _+_, _<_, _≤_, _^_}
 use native.Mathlib.Omega.{arith}
 use lib.Dec.{eqb, leb}
-use lib.ListN.{length, getD, drop, take, replicate}
+use lib.ListN.{length, getD, drop, take}
 use Rattle.std.specs.shelf.Lists.{All}
 use Rattle.std.specs.declared.option.Option.{Option}
 use Rattle.std.specs.declared.option.Option.the-variants.{Some, None}
-use Rattle.std.proofs.shelf.Tests.{and-parts, cond-true, cond-false, eqb-true, eqb-false, le-leb, leb-true, cond-both, true≢false}
+use Rattle.std.proofs.shelf.Tests.{and-parts, cond-true, eqb-true, le-leb, leb-true, cond-both, true≢false}
 use Rattle.std.proofs.shelf.Elements.{all-getD, all-take, all-drop}
 use Rattle.std.proofs.shelf.Lists.{length-append, length-take-le, length-drop, take-at, drop-more, take-append-drop, drop-drop}
-use Rattle.signals.specs.Bytes.{number, eight}
+use Rattle.signals.specs.Bytes.{eight}
 use Rattle.signals.proofs.Numbers.{number-eight, eight-number, number-below}
 use Rattle.format.specs.Names.{well-formed, spelled, field, before-zero, holds-name}
-use Rattle.format.specs.Commands.{Form, Word, wire, machine, rule, par, hide, unless, refine, end, opcode, byte, size, opcode-of, if-had, command-of, operands, encode, Fitting, Proper}
+use Rattle.format.specs.Commands.{Form, Word, wire, machine, rule, par, hide, unless, refine, end, opcode, byte, size, opcode-of, if-had, operands, encode, Fitting, Proper}
 use Rattle.format.specs.Reading.{Read, got, refused, set-at, operands-read, command-read, first-read, is-end}
 use Rattle.format.specs.declared.command.Opcode.{Opcode}
 use Rattle.format.specs.declared.command.Opcode.the-variants.{Wire, Machine, Rule, Par, Hide, Unless, Refine, End}
@@ -125,13 +125,13 @@ operands-sound form Wire bs s l has =
     let long : length name ≡ form .width = length-take-le (form .width) bs l in
     cond-both (holds-name name) _ _ (Sound form (1 ∷ bs))
     (λ h.
-        let e : field (form .width) (before-zero name) ≡ name = ap (λ n. field n (before-zero name)) (sym long) ∙ held-field name h in
-        record {
-          proper = (has, ap (λ n. well-formed n (before-zero name)) (sym long) ∙ held-well-formed name h);
-          same = ap (λ t. 1 ∷ (t ++ drop (form .width) bs)) e ∙ ap (λ t. 1 ∷ t) (take-append-drop (form .width) bs);
-          long = ap suc (sym long ∙ ap length (sym e));
-          alone = λ q. absurd (true≢false (sym q));
-        })
+    let e : field (form .width) (before-zero name) ≡ name = ap (λ n. field n (before-zero name)) (sym long) ∙ held-field name h in
+    record {
+      proper = (has, ap (λ n. well-formed n (before-zero name)) (sym long) ∙ held-well-formed name h);
+      same = ap (λ t. 1 ∷ (t ++ drop (form .width) bs)) e ∙ ap (λ t. 1 ∷ t) (take-append-drop (form .width) bs);
+      long = ap suc (sym long ∙ ap length (sym e));
+      alone = λ q. absurd (true≢false (sym q));
+    })
     (λ _. tt)
 operands-sound form Machine bs s l has = record { proper = (has, all-getD (λ b. b < 256) bs 0 0 l s); same = ap (λ t. 2 ∷ t) (first-operand bs l); long = refl; alone = λ e. absurd (true≢false (sym e)) }
 operands-sound form Rule bs s l has =
@@ -139,11 +139,11 @@ operands-sound form Rule bs s l has =
     let a = set-back 10 bs s (omega arith) in
     let e = set-back 18 bs s (omega arith) in
     let sets : (eight (set-at 2 bs) ++ (eight (set-at 10 bs) ++ eight (set-at 18 bs))) ++ drop 26 bs ≡ drop 2 bs =
-        (λ i. (p .1 i ++ (a .1 i ++ e .1 i)) ++ drop 26 bs)
-        ∙ regroup (take 8 (drop 2 bs)) (take 8 (drop 10 bs)) (take 8 (drop 18 bs)) (drop 26 bs)
-        ∙ ap (λ t. take 8 (drop 2 bs) ++ (take 8 (drop 10 bs) ++ t)) (piece 18 bs)
-        ∙ ap (λ t. take 8 (drop 2 bs) ++ t) (piece 10 bs)
-        ∙ piece 2 bs in
+    (λ i. (p .1 i ++ (a .1 i ++ e .1 i)) ++ drop 26 bs)
+    ∙ regroup (take 8 (drop 2 bs)) (take 8 (drop 10 bs)) (take 8 (drop 18 bs)) (drop 26 bs)
+    ∙ ap (λ t. take 8 (drop 2 bs) ++ (take 8 (drop 10 bs) ++ t)) (piece 18 bs)
+    ∙ ap (λ t. take 8 (drop 2 bs) ++ t) (piece 10 bs)
+    ∙ piece 2 bs in
     record {
       proper = (has, (all-getD (λ b. b < 256) bs 0 0 (omega arith) s, all-getD (λ b. b < 256) bs 1 0 (omega arith) s, p .0, a .0, e .0));
       same = ap (λ t. 3 ∷ getD bs 0 0 ∷ getD bs 1 0 ∷ t) sets ∙ ap (λ t. 3 ∷ getD bs 0 0 ∷ t) (sym (drop-more bs 1 0 (omega arith))) ∙ ap (λ t. 3 ∷ t) (first-operand bs (omega arith));
@@ -163,10 +163,10 @@ command-sound : (form : Form) (b : ℕ) (o : Option Opcode) (bs : List ℕ) → 
 command-sound form b None bs h s = tt
 command-sound form b (Some k) bs h s =
     let at : (has : Bool) → form .has k ≡ has → Sound form (b ∷ bs) (command-read form (cond has (Some k) None) bs) =
-        elim [
-          true ↦ λ e. cond-both (leb (size form k) (length bs)) _ _ (Sound form (b ∷ bs)) (λ l. subst (λ x. Sound form (x ∷ bs) (operands-read form k bs)) (sym h) (operands-sound form k bs s (leb-true _ _ l) e)) (λ _. tt)
-        | false ↦ λ _. tt
-        ] in
+    elim [
+      | true ↦ λ e. cond-both (leb (size form k) (length bs)) _ _ (Sound form (b ∷ bs)) (λ l. subst (λ x. Sound form (x ∷ bs) (operands-read form k bs)) (sym h) (operands-sound form k bs s (leb-true _ _ l) e)) (λ _. tt)
+      | false ↦ λ _. tt
+    ] in
     at (form .has k) refl
 
 pub first-sound : (form : Form) (bs : List ℕ) → Bytes bs → Sound form bs (first-read form bs)

@@ -1,12 +1,12 @@
 -- A name and the field that holds it. Assumes nothing.
-use mathlib.Core.Path.{_≡_, refl, sym, ap, subst, _∙_}
-use mathlib.Core.Bool.{Bool, true, false, cond, _&&_, _||_}
+use mathlib.Core.Path.{_≡_, refl, sym, ap, _∙_}
+use mathlib.Core.Bool.{Bool, true, false, _&&_}
 use mathlib.Core.List.{List, [], _∷_, _++_}
 use Prim.Native.Nat.{ℕ, zero, suc, _+_, _-_, _<_, _≤_}
 use native.Mathlib.Omega.{arith}
-use lib.Dec.{eqb, leb}
+use lib.Dec.{eqb}
 use lib.ListN.{length, getD, drop, take, replicate}
-use Rattle.std.proofs.shelf.Tests.{and-parts, and-from, cond-true, cond-false, eqb-true, eqb-false, eq-eqb, ne-eqb, le-leb, leb-true, cond-both, true≢false, cases-bool}
+use Rattle.std.proofs.shelf.Tests.{and-parts, and-from, cond-true, cond-false, eqb-true, eq-eqb, ne-eqb, le-leb, cond-both, true≢false}
 use Rattle.std.proofs.shelf.Lists.{length-append, length-replicate, take-at, take-take, drop-more, drop-all}
 use Rattle.std.proofs.shelf.Parts.{between-is}
 use Rattle.std.proofs.shelf.Ways.{tells}

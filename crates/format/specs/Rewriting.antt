@@ -9,8 +9,8 @@ use Rattle.std.specs.declared.option.Option.{Option}
 use Rattle.std.specs.declared.option.Option.the-variants.{Some, None}
 use Rattle.std.specs.declared.result.Result.{Result}
 use Rattle.std.specs.declared.result.Result.the-variants.{Ok, Err}
-use Rattle.format.specs.Commands.{Word, wire, machine, rule, par, hide, unless, refine, end, encode, extent, today}
-use Rattle.format.specs.Reading.{Reading, read-all}
+use Rattle.format.specs.Commands.{Word, wire, machine, rule, par, hide, unless, refine, end, encode, today}
+use Rattle.format.specs.Reading.{read-all}
 use Rattle.format.specs.declared.refusal.Refusal.{Refusal}
 use Rattle.format.specs.declared.refusal.Refusal.the-variants.{MisplacedRule, NoSpace}
 use Rattle.format.specs.declared.refusal.RecipeError.{RecipeError}

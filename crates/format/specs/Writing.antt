@@ -1,17 +1,16 @@
 -- What writing a command does to an output. Assumes nothing: these are definitions.
 use mathlib.Core.Path.{_≡_}
-use mathlib.Core.Bool.{Bool, true, false, cond}
+use mathlib.Core.Bool.{Bool, true, cond}
 use mathlib.Core.List.{List, [], _∷_, _++_}
 use Prim.Native.Nat.{ℕ, _+_}
 use lib.Dec.{leb}
 use lib.ListN.{length, take, drop}
 use Rattle.std.specs.shelf.Lists.{All}
-use Rattle.std.specs.declared.option.Option.{Option}
-use Rattle.std.specs.declared.option.Option.the-variants.{Some, None}
+use Rattle.std.specs.declared.option.Option.the-variants.{None}
 use Rattle.std.specs.declared.result.Result.{Result}
 use Rattle.std.specs.declared.result.Result.the-variants.{Ok, Err}
 use Rattle.format.specs.Names.{well-formed}
-use Rattle.format.specs.Commands.{Form, Word, wire, machine, rule, par, hide, unless, refine, end, encode, encode-all, Proper, today}
+use Rattle.format.specs.Commands.{Word, wire, machine, rule, par, hide, unless, refine, end, encode, encode-all, Proper, today}
 use Rattle.format.specs.Reading.{got, first-read, read-all}
 use Rattle.format.specs.Recipes.{Not-end}
 use Rattle.format.specs.declared.refusal.Refusal.{Refusal}

@@ -10,7 +10,7 @@ use signals::wire_set::WireSetPartialEq;
 
 // The eight kinds of commands.
 #[derive(Clone, Copy, PartialEq, Eq, Debug)]
-pub enum Opcode {
+pub(crate) enum Opcode {
     Wire,
     Machine,
     Rule,
@@ -49,7 +49,7 @@ pub const NAME_WIDTH: usize = 24;
 
 impl Opcode {
     // The opcode that a byte is, if it is one.
-    pub fn from_byte(byte: u8) -> Option<Opcode>
+    pub(crate) fn from_byte(byte: u8) -> Option<Opcode>
         ensures { λ r. ⌜ r ≡ command-of today byte ⌝ }
     {
         match byte {
@@ -66,7 +66,7 @@ impl Opcode {
     }
 
     // The byte that begins a command of this kind.
-    pub fn to_byte(self) -> u8
+    pub(crate) fn to_byte(self) -> u8
         ensures { λ r. ⌜ r ≡ byte self ⌝ }
     {
         match self {
@@ -82,7 +82,7 @@ impl Opcode {
     }
 
     // How many bytes the operands of such a command take.
-    pub fn operand_bytes(self) -> usize
+    pub(crate) fn operand_bytes(self) -> usize
         ensures { λ r. ⌜ r ≡ size today self ⌝ }
     {
         match self {

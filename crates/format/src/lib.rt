@@ -12,7 +12,6 @@ pub mod rewrite;
 pub mod writer;
 
 pub use command::Command;
-pub use command::Opcode;
 pub use command::Rule;
 pub use reader::Reader;
 pub use refusal::RecipeError;

@@ -2,7 +2,7 @@
 ghost use mathlib.Core.Path.{_≡_};
 ghost use Prim.Native.Nat.{suc, _≤_, _<_};
 ghost use denote.Ref.{ptr};
-ghost use lib.ListN.{length, take};
+ghost use lib.ListN.{length};
 ghost use Rattle.std.specs.Vec.{made};
 ghost use Rattle.signals.specs.Bytes.{number};
 ghost use Rattle.format.specs.Commands.{size, today};
@@ -22,7 +22,16 @@ fn wire_set(bytes: &[u8]) -> WireSet
     requires { ⌜ length (now bytes) ≡ 8 ⌝ }
     ensures { λ r. ⌜ r .bits ≡ number (now (bytes .entry)) ⌝ }
 {
-    WireSet::from_be_bytes([bytes[0], bytes[1], bytes[2], bytes[3], bytes[4], bytes[5], bytes[6], bytes[7]])
+    WireSet::from_be_bytes([
+        bytes[0],
+        bytes[1],
+        bytes[2],
+        bytes[3],
+        bytes[4],
+        bytes[5],
+        bytes[6],
+        bytes[7],
+    ])
 }
 
 // The name in the field at the front of `operands`.
@@ -59,21 +68,29 @@ fn command(opcode: Opcode, operands: &[u8]) -> Result<Command<'_>, Refusal>
     ensures value { λ r. ⌜ command-read (suc (size today opcode)) r ≡ operands-read today opcode (now (operands .entry)) ⌝ }
     ensures place { λ r. ⌜ made r (Lies (ptr (operands .entry))) ⌝ }
 {
-    Ok(match opcode {
-        Opcode::Wire => Command::Wire { name: wire_name(operands)? },
-        Opcode::Machine => Command::Machine { states: operands[0] },
-        Opcode::Rule => Command::Rule(rule(operands)),
-        Opcode::Par => Command::Par,
-        Opcode::Hide => Command::Hide { hidden: wire_set(&operands[0..8]) },
-        Opcode::Unless => Command::Unless { wire: operands[0] },
-        Opcode::Refine => Command::Refine { stage: operands[0] },
-        Opcode::End => {
-            if operands.len() > 0 {
-                return Err(Refusal::BytesAfterEnd);
+    Ok(
+        match opcode {
+            Opcode::Wire => Command::Wire {
+                name: wire_name(operands)?,
+            },
+            Opcode::Machine => Command::Machine {
+                states: operands[0],
+            },
+            Opcode::Rule => Command::Rule(rule(operands)),
+            Opcode::Par => Command::Par,
+            Opcode::Hide => Command::Hide {
+                hidden: wire_set(&operands[0..8]),
+            },
+            Opcode::Unless => Command::Unless { wire: operands[0] },
+            Opcode::Refine => Command::Refine { stage: operands[0] },
+            Opcode::End => {
+                if operands.len() > 0 {
+                    return Err(Refusal::BytesAfterEnd);
+                }
+                Command::End
             }
-            Command::End
-        }
-    })
+        },
+    )
 }
 
 // The first command of `bytes`, and the number of its bytes.

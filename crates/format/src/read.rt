@@ -18,7 +18,10 @@ impl<'a> Reader<'a> {
         ensures rest { λ r. ⌜ r .rest ≡ recipe .entry ⌝ }
         ensures position { λ r. ⌜ r .position ≡ 0 ⌝ }
     {
-        Reader { rest: recipe, position: 0 }
+        Reader {
+            rest: recipe,
+            position: 0,
+        }
     }
 
     // The position of the next byte to be read.

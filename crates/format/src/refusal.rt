@@ -56,7 +56,10 @@ pub impl From<AllocError> for RecipeError as RecipeErrorFromAlloc {
     ghost converts = { λ _ r. r ≡ out-of-memory };
 
     fn from(_error: AllocError) -> RecipeError {
-        RecipeError { refusal: Refusal::OutOfMemory, position: 0 }
+        RecipeError {
+            refusal: Refusal::OutOfMemory,
+            position: 0,
+        }
     }
 }
 
@@ -64,6 +67,9 @@ pub impl<T: Drop> From<Refused<T>> for RecipeError as RecipeErrorFromRefused {
     ghost converts = { λ _ r. r ≡ out-of-memory };
 
     fn from(_error: Refused<T>) -> RecipeError {
-        RecipeError { refusal: Refusal::OutOfMemory, position: 0 }
+        RecipeError {
+            refusal: Refusal::OutOfMemory,
+            position: 0,
+        }
     }
 }

@@ -25,7 +25,10 @@ fn check(recipe: &[u8]) -> Result<(), RecipeError>
         let position = reader.position();
         let command = reader.read()?;
         if command.is_misplaced(in_machine) {
-            return Err(RecipeError { refusal: Refusal::MisplacedRule, position });
+            return Err(RecipeError {
+                refusal: Refusal::MisplacedRule,
+                position,
+            });
         }
         if command.is_end() {
             return Ok(());
@@ -41,7 +44,10 @@ fn finish(pen: Pen, out: &mut [u8], position: usize) -> Result<usize, RecipeErro
 {
     match pen.close().end(out) {
         Ok(finished) => Ok(finished.length()),
-        Err(unwritten) => Err(RecipeError { refusal: unwritten.refusal, position }),
+        Err(unwritten) => Err(RecipeError {
+            refusal: unwritten.refusal,
+            position,
+        }),
     }
 }
 
@@ -76,7 +82,10 @@ pub fn rewrite(recipe: &[u8], out: &mut [u8]) -> Result<usize, RecipeError>
 {
     check(recipe)?;
     if out.len() < recipe.len() {
-        return Err(RecipeError { refusal: Refusal::NoSpace, position: 0 });
+        return Err(RecipeError {
+            refusal: Refusal::NoSpace,
+            position: 0,
+        });
     }
     copy(recipe, out)
 }

@@ -59,7 +59,10 @@ impl Writer {
     {
         match encode::put(out, self.position, bytes) {
             Ok(position) => Ok(Writer { position }),
-            Err(refusal) => Err(Unwritten { refusal, writer: self }),
+            Err(refusal) => Err(Unwritten {
+                refusal,
+                writer: self,
+            }),
         }
     }
 
@@ -70,7 +73,10 @@ impl Writer {
         ensures law { λ r. ⌜ made r (λ w. Wrote (wire (now (name .entry))) (self .position) (now (out .entry)) (w .position) (now (out .exit))) ⌝ }
     {
         if !name::is_well_formed(name) {
-            return Err(Unwritten { refusal: Refusal::MalformedName, writer: self });
+            return Err(Unwritten {
+                refusal: Refusal::MalformedName,
+                writer: self,
+            });
         }
         self.write(out, &encode::wire_bytes(name))
     }
@@ -83,7 +89,10 @@ impl Writer {
     {
         match encode::put(out, self.position, &[Opcode::Machine.to_byte(), states]) {
             Ok(position) => Ok(MachineWriter { position }),
-            Err(refusal) => Err(Unwritten { refusal, writer: self }),
+            Err(refusal) => Err(Unwritten {
+                refusal,
+                writer: self,
+            }),
         }
     }
 
@@ -131,7 +140,10 @@ impl Writer {
     {
         match encode::put(out, self.position, &[Opcode::End.to_byte()]) {
             Ok(length) => Ok(Finished { length }),
-            Err(refusal) => Err(Unwritten { refusal, writer: self }),
+            Err(refusal) => Err(Unwritten {
+                refusal,
+                writer: self,
+            }),
         }
     }
 }
@@ -152,7 +164,10 @@ impl MachineWriter {
     {
         match encode::put(out, self.position, &encode::rule_bytes(rule)) {
             Ok(position) => Ok(MachineWriter { position }),
-            Err(refusal) => Err(Unwritten { refusal, writer: self }),
+            Err(refusal) => Err(Unwritten {
+                refusal,
+                writer: self,
+            }),
         }
     }
 
@@ -160,7 +175,9 @@ impl MachineWriter {
     pub fn close(self) -> Writer
         ensures { λ r. ⌜ r .position ≡ self .position ⌝ }
     {
-        Writer { position: self.position }
+        Writer {
+            position: self.position,
+        }
     }
 }
 

@@ -1,6 +1,6 @@
 -- The names that commands declare, one command more. Assumes nothing.
 use mathlib.Core.Path.{_≡_, refl, sym, ap, subst, _∙_}
-use mathlib.Core.List.{List, [], _∷_, _++_, map, append-nil, append-assoc}
+use mathlib.Core.List.{List, [], _∷_, _++_, map}
 use Prim.Native.Nat.{ℕ, _+_, _<_}
 use denote.Ref.{RefT}
 use lib.ListN.{length, getD, take}
@@ -9,7 +9,7 @@ use Rattle.std.specs.declared.option.Option.the-variants.{None}
 use Rattle.std.specs.shelf.Lists.{All}
 use Rattle.std.proofs.shelf.Elements.{all-append}
 use Rattle.std.proofs.shelf.Tests.{and-parts}
-use Rattle.format.specs.Commands.{Word, Proper, today}
+use Rattle.format.specs.Commands.{Proper, today}
 use Rattle.format.specs.Names.{spelled}
 use Rattle.format.specs.Reading.{Reading, read-all}
 use Rattle.format.specs.Recipes.{Ended, Whole}

@@ -62,7 +62,13 @@ pub fn wire_list(heap: Global, recipe: &[u8]) -> Result<String, AllocError>
     ensures { λ r. ⌜ made r (λ s. string-bytes s ≡ wire-report (now (recipe .entry))) ⌝ }
 {
     if recipe.len() > MAX_RECIPE {
-        return load_line(heap, RecipeError { refusal: Refusal::TooLong, position: 0 });
+        return load_line(
+            heap,
+            RecipeError {
+                refusal: Refusal::TooLong,
+                position: 0,
+            },
+        );
     }
     match read_commands(heap, recipe) {
         Ok(commands) => {

@@ -1,15 +1,14 @@
 -- Eight bytes and the number that they write. Assumes nothing.
-use mathlib.Core.Path.{_≡_, refl, sym, ap, subst, _∙_}
+use mathlib.Core.Path.{_≡_, sym, ap, subst, _∙_}
 use mathlib.Core.List.{List, [], _∷_}
 use Prim.Native.Nat.{ℕ, zero, suc, _+_, _*_, _/_, _%_, _^_, _<_}
-use native.Mathlib.Nat.{add-zero}
 use native.Mathlib.Omega.{arith}
 use lib.Dec.{lit<}
 use lib.ListN.{length, getD, drop}
 use Rattle.std.specs.shelf.Lists.{All}
 use Rattle.std.proofs.shelf.Elements.{all-getD}
 use Rattle.std.proofs.shelf.Lists.{drop-more, drop-all}
-use Rattle.signals.specs.Bytes.{number, number-from, eight}
+use Rattle.signals.specs.Bytes.{number, eight}
 
 pub number-eight : (n : ℕ) → n < 2 ^ 64 → number (eight n) ≡ n
 number-eight n h = omega arith

@@ -1,18 +1,17 @@
 -- The sets of wires, wire by wire. Assumes nothing.
-use mathlib.Core.Path.{_≡_, refl, sym, ap, subst, _∙_}
+use mathlib.Core.Path.{_≡_, refl, sym, ap, _∙_}
 use mathlib.Core.Bool.{Bool, true, false, _&&_, _||_, not}
-use mathlib.Core.Logic.{_⊎_, inl, inr}
-use Prim.Native.Nat.{ℕ, zero, suc, min, max, _+_, _-_, _*_, _/_, _%_, _^_, _<_, _≤_}
+use Prim.Native.Nat.{ℕ, zero, suc, _-_, _*_, _/_, _%_, _^_, _<_, _≤_}
 use native.Mathlib.Nat.{div-one, div-eq-of-lt, pow-suc}
 use native.Mathlib.Numerals.{one-add}
 use native.Mathlib.Omega.{arith}
 use lib.Bits.{bitAnd, bitOr, and-step, or-step, and-shr, or-shr, and-le-l, and-lt}
 use lib.Dec.{eqb}
 use lib.Pow.{pow-mono}
-use Rattle.std.proofs.shelf.Bits.{shr-shr, pow-pos, div-below}
-use Rattle.std.proofs.shelf.Tests.{eqb-true, eqb-false, eq-eqb, ne-eqb, cases-bool, true≢false}
+use Rattle.std.proofs.shelf.Bits.{shr-shr}
+use Rattle.std.proofs.shelf.Tests.{eqb-true, eq-eqb, true≢false}
 use Rattle.std.proofs.shelf.Ways.{tells}
-use Rattle.signals.specs.Sets.{has, union, intersection, difference, subset, Union-wires, Intersection-wires, Difference-wires, Subset-wires, Same-wires}
+use Rattle.signals.specs.Sets.{has, union, intersection, difference, subset, Union-wires, Intersection-wires, Difference-wires, Subset-wires}
 
 -- ---- one wire is one bit
 abbrev bit : ℕ → Bool
@@ -67,7 +66,7 @@ and-not (suc k) a b p q =
 halves : (k a : ℕ) → a < 2 ^ suc k → a / 2 < 2 ^ k
 halves k a p = omega (arith, pow-suc 2 k)
 
-pub same-wires : (k a b : ℕ) → a < 2 ^ k → b < 2 ^ k → Same-wires a b
+pub same-wires : (k a b : ℕ) → a < 2 ^ k → b < 2 ^ k → ((w : ℕ) → has a w ≡ has b w) → a ≡ b
 same-wires zero a b p q h = omega arith
 same-wires (suc k) a b p q h =
     let low : bit a ≡ bit b = sym (has-zero a) ∙ h 0 ∙ has-zero b in

@@ -36,7 +36,3 @@ Difference-wires a b r = (w : ℕ) → has r w ≡ (has a w && not (has b w))
 
 abbrev pub Subset-wires : ℕ → ℕ → Bool → Type 0
 Subset-wires a b r = (r ≡ true → (w : ℕ) → has a w ≡ true → has b w ≡ true) × (((w : ℕ) → has a w ≡ true → has b w ≡ true) → r ≡ true)
-
--- sets with the same wires are the same set
-abbrev pub Same-wires : ℕ → ℕ → Type 0
-Same-wires a b = ((w : ℕ) → has a w ≡ has b w) → a ≡ b

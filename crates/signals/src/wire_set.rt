@@ -1,35 +1,22 @@
 // A set of wires.
 ghost use mathlib.Core.Path.{_≡_};
-ghost use Prim.Native.Nat.{_<_, _^_};
 ghost use Rattle.signals.specs.Bytes.{number, eight};
 ghost use Rattle.signals.specs.Sets.{has, union, intersection, difference, subset, Union-wires, Intersection-wires, Difference-wires, Subset-wires};
 
 // A set of wires, which are numbered 0 to 63: wire w weighs 2 to the power w.
 #[derive(Clone, Copy, PartialEq, Eq, Debug)]
 pub struct WireSet {
-    bits: u64,
+    pub bits: u64,
 }
 
 impl WireSet {
-    // The set whose number is `bits`.
-    pub fn from_bits(bits: u64) -> WireSet
-        ensures { λ r. ⌜ r .bits ≡ bits ⌝ }
-    {
-        WireSet { bits }
-    }
-
-    // The set's number.
-    pub fn bits(self) -> u64
-        ensures { λ r. ⌜ r ≡ self .bits ⌝ }
-    {
-        self.bits
-    }
-
     // The set that eight bytes write, the most significant first.
     pub fn from_be_bytes(bytes: [u8; 8]) -> WireSet
         ensures { λ r. ⌜ r .bits ≡ number bytes ⌝ }
     {
-        WireSet { bits: u64::from_be_bytes(bytes) }
+        WireSet {
+            bits: u64::from_be_bytes(bytes),
+        }
     }
 
     // The eight bytes that write the set, the most significant first.
@@ -52,7 +39,9 @@ impl WireSet {
         ensures value { λ r. ⌜ r .bits ≡ union (self .bits) (other .bits) ⌝ }
         ensures wires { λ r. ⌜ Union-wires (self .bits) (other .bits) (r .bits) ⌝ }
     {
-        WireSet { bits: self.bits | other.bits }
+        WireSet {
+            bits: self.bits | other.bits,
+        }
     }
 
     // The wires of both sets.
@@ -60,7 +49,9 @@ impl WireSet {
         ensures value { λ r. ⌜ r .bits ≡ intersection (self .bits) (other .bits) ⌝ }
         ensures wires { λ r. ⌜ Intersection-wires (self .bits) (other .bits) (r .bits) ⌝ }
     {
-        WireSet { bits: self.bits & other.bits }
+        WireSet {
+            bits: self.bits & other.bits,
+        }
     }
 
     // The wires of this set that `other` has not.
@@ -68,7 +59,9 @@ impl WireSet {
         ensures value { λ r. ⌜ r .bits ≡ difference (self .bits) (other .bits) ⌝ }
         ensures wires { λ r. ⌜ Difference-wires (self .bits) (other .bits) (r .bits) ⌝ }
     {
-        WireSet { bits: self.bits & !other.bits }
+        WireSet {
+            bits: self.bits & !other.bits,
+        }
     }
 
     // Whether each wire of this set is in `other`.

@@ -1,4 +1,3 @@
-use lib.Dec.{eqb}
 use Rattle.std.proofs.shelf.Tests.{eq-eqb, ne-eqb}
 use Rattle.format.proofs.Spelling.{is-zero, all-more, all-fails, all-passed}
 use Rattle.format.proofs.name.is_all_zero.Needs as need

@@ -1,14 +1,12 @@
-use mathlib.Core.Path.{_≡_, refl, sym, ap, _∙_}
-use Prim.Native.Nat.{ℕ, _<_, _≤_, _+_}
-use native.Mathlib.Numerals.{one-add}
+use mathlib.Core.Path.{_≡_, sym, ap, _∙_}
+use Prim.Native.Nat.{_<_, _≤_, _+_}
 use native.Mathlib.Omega.{arith}
-use lib.ListN.{length, getD}
+use lib.ListN.{length}
 use borrow.Author.Needs.{needs}
 use Rattle.std.specs.Holes.{between}
-use Rattle.std.specs.declared.option.Option.the-variants.{Some}
 use Rattle.std.proofs.shelf.Results.{err-from-errBy}
-use Rattle.format.specs.Commands.{size, today, command-of}
-use Rattle.format.specs.Reading.{Read, got, first-read, operands-read}
+use Rattle.format.specs.Commands.{size, today}
+use Rattle.format.specs.Reading.{got, first-read, operands-read}
 use Rattle.format.specs.Values.{word}
 use Rattle.format.proofs.Firsts.{first-operands}
 use Rattle.format.proofs.parse.first_command.Needs as need

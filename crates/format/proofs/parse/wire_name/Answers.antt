@@ -1,8 +1,8 @@
-use mathlib.Core.Path.{_≡_, sym, ap, _∙_}
-use Prim.Native.Nat.{ℕ, _≤_, _-_}
+use mathlib.Core.Path.{sym, ap, _∙_}
+use Prim.Native.Nat.{ℕ, _≤_}
 use native.Mathlib.Nat.{zero-add}
 use native.Mathlib.Omega.{arith}
-use lib.ListN.{length, length-take}
+use lib.ListN.{length-take}
 use Rattle.std.proofs.shelf.Tests.{cond-true, cond-false, and-from, and-left, and-right}
 use Rattle.format.specs.Commands.{wire}
 use Rattle.format.specs.Reading.{got}
@@ -30,8 +30,8 @@ returns-else-is-spelled c =
     let h = holds-is bs 24 n is le in
     record {
       value = sym (cond-false _ _ _ (elim (c .else-is-spelled .came) [
-        else-is-spelled·by·then-is-spelled·else-is-all-zero w ↦ h ∙ and-right _ _ (sym (w .if-is-all-zero .ensures tt))
-      | else-is-spelled·by·else-is-spelled w ↦ h ∙ and-left _ _ (sym (w .if-is-spelled .ensures tt))
+        | else-is-spelled·by·then-is-spelled·else-is-all-zero w ↦ h ∙ and-right _ _ (sym (w .if-is-all-zero .ensures tt))
+        | else-is-spelled·by·else-is-spelled w ↦ h ∙ and-left _ _ (sym (w .if-is-spelled .ensures tt))
       ]));
       place = tt;
     }

@@ -1,7 +1,6 @@
-use mathlib.Core.Path.{_≡_, sym, ap, _∙_}
+use mathlib.Core.Path.{sym, ap, _∙_}
 use mathlib.Core.List.{_++_, map, append-nil, append-assoc}
 use lib.ListN.{length, getD, take}
-use Rattle.std.specs.Of.String.{string-bytes}
 use Rattle.std.proofs.shelf.Elements.{all-getD}
 use Rattle.std.proofs.shelf.Lists.{length-map, take-all}
 use Rattle.reports.specs.Lines.{wires-line, wire-line, wire-lines}

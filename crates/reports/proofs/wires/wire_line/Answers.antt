@@ -1,4 +1,4 @@
-use mathlib.Core.Path.{_≡_, sym, ap, _∙_}
+use mathlib.Core.Path.{ap, _∙_}
 use Rattle.std.specs.Text.{Utf8}
 use Rattle.std.proofs.shelf.Results.{made-weaker, cases-at-ok}
 use Rattle.reports.specs.Lines.{wire-line}

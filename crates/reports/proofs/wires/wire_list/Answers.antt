@@ -5,9 +5,8 @@ use Rattle.std.specs.Of.Vec.{vec-items}
 use Rattle.std.specs.shelf.Lists.{All}
 use Rattle.std.proofs.shelf.Results.{made-weaker}
 use Rattle.std.proofs.shelf.Tests.{cond-true, le-leb}
-use Rattle.format.specs.Values.{word}
 use Rattle.reports.specs.Lines.{wire-list, reading-report}
-use Rattle.reports.specs.Names.{shown, Spelled, name-refs, names-of}
+use Rattle.reports.specs.Names.{shown, Spelled, name-refs}
 use Rattle.reports.proofs.Declared.{all-names, spelled-refs, all-proper}
 use Rattle.reports.proofs.wires.wire_list.Needs as need
 use Rattle.reports.proofs.wires.wire_list.Needs.{In-Continue-names}

@@ -1,4 +1,4 @@
-use mathlib.Core.Path.{_≡_, refl, sym, ap, _∙_}
+use mathlib.Core.Path.{refl, sym, ap}
 use mathlib.Core.Bool.{not}
 use Rattle.format.specs.Commands.{wire, machine, par, hide, unless, refine}
 use Rattle.format.specs.Pens.{place, within}
@@ -43,4 +43,3 @@ pub returns-in-Refine : need.returns-in-Refine
 returns-in-Refine c =
     let p = between-penned (within (c .args .self)) (c .args .command) (refine (c .in-Refine .stage)) (place (c .args .self)) _ (c .args .out .now) _ (ap word (c .in-Refine .is)) (c .close-in-Refine .ensures) (c .refine .ensures .output) _ _ _ refl refl (c .between-in-Refine .ensures) (c .refine .ensures .value) in
     record { value = p .value; output = p .output }
-

@@ -1,9 +1,9 @@
-use mathlib.Core.Path.{_≡_, sym, ap, _∙_}
-use Prim.Native.Nat.{ℕ, _+_}
+use mathlib.Core.Path.{_≡_, ap, _∙_}
+use Prim.Native.Nat.{_+_}
 use lib.ListN.{drop}
 use Rattle.std.proofs.shelf.Lists.{take-rest}
 use Rattle.format.specs.Commands.{today}
-use Rattle.format.specs.Reading.{Read, got, first-read}
+use Rattle.format.specs.Reading.{got, first-read}
 use Rattle.format.specs.Values.{word, behind, answer, taken}
 use Rattle.format.proofs.reader.Reader.read.Needs as need
 

@@ -2,8 +2,7 @@ use Rattle.format.proofs.Outputs.{told}
 use Rattle.format.specs.Values.{rule-word}
 use Rattle.format.specs.Writers.{answered, in-machine}
 use borrow.Author.Needs.{needs}
-use mathlib.Core.List.{[], _∷_}
-use mathlib.Core.Path.{refl, sym, ap, _∙_}
+use mathlib.Core.Path.{refl, ap}
 use Rattle.format.proofs.writer.MachineWriter.rule.Needs as need
 
 pub returns-in-Ok : need.returns-in-Ok

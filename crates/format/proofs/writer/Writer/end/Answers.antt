@@ -1,9 +1,8 @@
 use Rattle.format.proofs.Outputs.{ended-by}
 use Rattle.format.specs.Writers.{answered, finished}
 use Rattle.format.specs.Writing.{put-answer, put-output}
-use borrow.Author.Needs.{needs}
 use mathlib.Core.List.{[], _∷_}
-use mathlib.Core.Path.{refl, sym, ap, _∙_}
+use mathlib.Core.Path.{ap, _∙_}
 use Rattle.format.proofs.writer.Writer.end.Needs as need
 
 pub returns-in-Ok : need.returns-in-Ok

@@ -2,8 +2,7 @@ use Rattle.format.proofs.Outputs.{told}
 use Rattle.format.specs.Commands.{hide}
 use Rattle.format.specs.Writers.{between}
 use borrow.Author.Needs.{needs}
-use mathlib.Core.List.{[], _∷_}
-use mathlib.Core.Path.{refl, sym, ap, _∙_}
+use mathlib.Core.Path.{refl}
 use Rattle.format.proofs.writer.Writer.hide.Needs as need
 
 pub returns : need.returns

@@ -3,7 +3,7 @@ use Rattle.format.specs.Commands.{machine}
 use Rattle.format.specs.Writers.{answered, in-machine}
 use borrow.Author.Needs.{needs}
 use mathlib.Core.List.{[], _∷_}
-use mathlib.Core.Path.{refl, sym, ap, _∙_}
+use mathlib.Core.Path.{refl, ap}
 use Rattle.format.proofs.writer.Writer.machine.Needs as need
 
 pub returns-in-Ok : need.returns-in-Ok

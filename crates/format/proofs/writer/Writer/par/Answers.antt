@@ -1,9 +1,8 @@
 use Rattle.format.proofs.Outputs.{told}
 use Rattle.format.specs.Commands.{par}
 use Rattle.format.specs.Writers.{between}
-use borrow.Author.Needs.{needs}
 use mathlib.Core.List.{[], _∷_}
-use mathlib.Core.Path.{refl, sym, ap, _∙_}
+use mathlib.Core.Path.{refl, ap}
 use Rattle.format.proofs.writer.Writer.par.Needs as need
 
 pub returns : need.returns

@@ -3,7 +3,7 @@ use Rattle.format.specs.Commands.{unless}
 use Rattle.format.specs.Writers.{between}
 use borrow.Author.Needs.{needs}
 use mathlib.Core.List.{[], _∷_}
-use mathlib.Core.Path.{refl, sym, ap, _∙_}
+use mathlib.Core.Path.{refl, ap}
 use Rattle.format.proofs.writer.Writer.unless.Needs as need
 
 pub returns : need.returns

@@ -1,9 +1,7 @@
 use Rattle.format.proofs.Outputs.{told}
 use Rattle.format.specs.Commands.{wire}
 use Rattle.format.specs.Writers.{between}
-use borrow.Author.Needs.{needs}
-use mathlib.Core.List.{[], _∷_}
-use mathlib.Core.Path.{refl, sym, ap, _∙_}
+use mathlib.Core.Path.{refl, sym}
 use Rattle.format.proofs.writer.Writer.wire.Needs as need
 
 pub returns : need.returns
