@@ -2,10 +2,5 @@ pub mod Variants
 pub mod Spelling
 pub mod Roundtrip
 pub mod Readings
-pub mod Keeping
 pub mod Firsts
-pub mod Outputs
-pub mod Pending
-pub mod Checking
-pub mod Copying
-pub mod Placing
+pub mod Keeping

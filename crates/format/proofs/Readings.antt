@@ -1,6 +1,6 @@
 -- Whole recipes: what reading to the end comes to. Assumes nothing.
 use mathlib.Core.Path.{_≡_, refl, sym, ap, subst, _∙_}
-use mathlib.Core.Bool.{true, false, cond}
+use mathlib.Core.Bool.{Bool, true, false, cond}
 use mathlib.Core.List.{List, [], _∷_, _++_, append-nil, append-assoc}
 use Prim.Native.Nat.{ℕ, zero, suc, _+_, _-_, _<_, _≤_}
 use native.Mathlib.Nat.{zero-add, suc-add}
@@ -17,11 +17,11 @@ use Rattle.std.proofs.shelf.Lists.{joined-more, length-append, length-take-le, 
 use Rattle.format.specs.Names.{before-zero, holds-name}
 use Rattle.format.specs.Commands.{Form, Word, end, opcode, size, command-of, encode, encode-all, extent, Proper}
 use Rattle.format.specs.Reading.{Read, got, refused, operands-read, command-read, first-read, is-end, before, Reading, read-from, read-all}
-use Rattle.format.specs.Recipes.{Bytes, Not-end, Stopped, Ended, named, named-operands, settled, Whole, followed, Read-back}
+use Rattle.format.specs.Recipes.{Bytes, Not-end, Stopped, Ended, named, named-operands, settled, Whole, followed}
 use Rattle.format.specs.declared.command.Opcode.{Opcode}
 use Rattle.format.specs.declared.command.Opcode.the-variants.{Wire, Machine, Rule, Par, Hide, Unless, Refine, End}
 use Rattle.format.specs.declared.refusal.Refusal.{Refusal}
-use Rattle.format.specs.declared.refusal.Refusal.the-variants.{EndOfBytes, MissingOperands, MalformedName, BytesAfterEnd}
+use Rattle.format.specs.declared.refusal.Refusal.the-variants.{EndOfBytes, UnknownCommand, MissingOperands, MalformedName, MisplacedRule, BytesAfterEnd, TooLong, NoSpace, OutOfMemory}
 use Rattle.format.proofs.Roundtrip.{Taken, Sound, first-encoded, first-sound}
 
 -- ---- one command on
@@ -70,6 +70,19 @@ end-only Word.end e = refl
 before-more : (w : Word) (r : Reading) → Not-end w → before w r ≡ followed (w ∷ []) r
 before-more w r h = cond-false (is-end w) _ _ h
 
+-- a read that found no byte
+abbrev at-end : Read → Bool
+at-end (got w n) = false
+at-end (refused EndOfBytes) = true
+at-end (refused UnknownCommand) = false
+at-end (refused MissingOperands) = false
+at-end (refused MalformedName) = false
+at-end (refused MisplacedRule) = false
+at-end (refused BytesAfterEnd) = false
+at-end (refused TooLong) = false
+at-end (refused NoSpace) = false
+at-end (refused OutOfMemory) = false
+
 module _ (form : Form) where
   read-encoded : (w : Word) (t : List ℕ) → Proper form w → Not-end w → read-all form (encode form w ++ t) ≡ followed (w ∷ []) (read-all form t)
   read-encoded w t p h =
@@ -91,9 +104,6 @@ module _ (form : Form) where
   read-whole ws p h has =
       let last : read-all form (encode form end) ≡ record { words = end ∷ []; ending = None } = read-step form (encode form end) end 1 (first-encoded form end [] (has, tt) (λ _. refl)) (omega arith) in
       ap (read-all form) (encode-more ws end) ∙ read-among ws (encode form end) p h ∙ ap (followed ws) last
-
-  pub read-back : (ws : List Word) → All (Proper form) ws → All Not-end ws → Read-back form ws
-  read-back ws p h = record { among = λ t. read-among ws t p h; whole = read-whole ws p h }
 
   -- ---- what reading to the end comes to
   grown : (bs : List ℕ) (w : Word) (n : ℕ) → Taken form bs w n → Not-end w → (ws : List Word) (e : Option Refusal) → Ended form (drop n bs) ws e → Ended form bs (w ∷ ws) e
@@ -149,6 +159,24 @@ module _ (form : Form) where
   got-not : (w : Word) (n : ℕ) (e : Refusal) → got w n ≡ refused e → ⊥
   got-not w n e q = let z : _≡_ {A = ℕ} 0 1 = cc in omega arith
 
+  operands-some : (k : Opcode) (bs : List ℕ) → at-end (operands-read form k bs) ≡ false
+  operands-some Wire bs = cond-both (holds-name (take (form .width) bs)) _ _ (λ x. at-end x ≡ false) (λ _. refl) (λ _. refl)
+  operands-some Machine bs = refl
+  operands-some Rule bs = refl
+  operands-some Par bs = refl
+  operands-some Hide bs = refl
+  operands-some Unless bs = refl
+  operands-some Refine bs = refl
+  operands-some End bs = cond-both (eqb (length bs) 0) _ _ (λ x. at-end x ≡ false) (λ _. refl) (λ _. refl)
+
+  command-some : (o : Option Opcode) (bs : List ℕ) → at-end (command-read form o bs) ≡ false
+  command-some None bs = refl
+  command-some (Some k) bs = cond-both (leb (size form k) (length bs)) _ _ (λ x. at-end x ≡ false) (λ _. operands-some k bs) (λ _. refl)
+
+  no-byte : (bs : List ℕ) → first-read form bs ≡ refused EndOfBytes → bs ≡ []
+  no-byte [] q = refl
+  no-byte (b ∷ bs) q = absurd (true≢false (sym (ap at-end q) ∙ command-some (command-of form b) bs))
+
   operands-blind : (k : Opcode) (bs t : List ℕ) (e : Refusal) → size form k ≤ length bs → settled e ≡ true → operands-read form k bs ≡ refused e → operands-read form k (take (size form k) bs ++ t) ≡ refused e
   operands-blind Wire bs t e l s q =
       let same : take (form .width) (take (form .width) bs ++ t) ≡ take (form .width) bs = take-at (take (form .width) bs) t (form .width) (length-take-le (form .width) bs l) in
@@ -201,5 +229,29 @@ module _ (form : Form) where
   blind-at bs r d e q s t =
       stopped-blind bs (r .words) e (subst (Ended form bs (r .words)) q d) s t ∙ ap (λ x. record { words = r .words; ending = x }) (sym q)
 
+  -- ---- only where no byte is left is that the refusal
+  short-at : (bs : List ℕ) (r : Reading) → Ends bs r → r .ending ≡ Some EndOfBytes → extent form (r .words) ≡ length bs
+  short-at bs r d q =
+      let h = subst (Ended form bs (r .words)) q d in
+      let none = no-byte (h .behind) (h .asked) in
+      ap length (sym (append-nil (encode-all form (r .words))) ∙ ap (λ t. encode-all form (r .words) ++ t) (sym none) ∙ h .split)
+
+  before-at : (bs : List ℕ) (r : Reading) → Ends bs r → (e : Refusal) → r .ending ≡ Some e → (t : List ℕ) → read-all form (take (extent form (r .words)) bs ++ t) ≡ followed (r .words) (read-all form t)
+  before-at bs r d e q t =
+      let h = subst (Ended form bs (r .words)) q d in
+      let front = encode-all form (r .words) in
+      ap (λ x. read-all form (take (length front) x ++ t)) (sym (h .split))
+      ∙ ap (λ x. read-all form (x ++ t)) (take-at front (h .behind) (length front) refl)
+      ∙ read-among (r .words) t (h .proper) (h .none)
+
   pub whole : (bs : List ℕ) → Bytes bs → Whole form bs (read-all form bs)
-  whole bs s = record { ended = ended bs s; blind = blind-at bs (read-all form bs) (ended bs s) }
+  whole bs s =
+      let r = read-all form bs in
+      let d = ended bs s in
+      record {
+        ended = d;
+        complete = λ has ws p h e. ap (read-all form) e ∙ read-whole ws p h has;
+        short = short-at bs r d;
+        before = before-at bs r d;
+        blind = blind-at bs r d;
+      }

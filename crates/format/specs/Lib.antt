@@ -4,7 +4,3 @@ pub mod Commands
 pub mod Reading
 pub mod Recipes
 pub mod Values
-pub mod Writing
-pub mod Writers
-pub mod Rewriting
-pub mod Pens

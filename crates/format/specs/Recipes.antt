@@ -3,7 +3,7 @@ use mathlib.Core.Path.{_≡_}
 use mathlib.Core.Bool.{Bool, true, false}
 use mathlib.Core.List.{List, [], _∷_, _++_}
 use Prim.Native.Nat.{ℕ, suc, _+_, _<_}
-use lib.ListN.{take, drop}
+use lib.ListN.{length, take, drop}
 use Rattle.std.specs.shelf.Lists.{All}
 use Rattle.std.specs.declared.option.Option.{Option}
 use Rattle.std.specs.declared.option.Option.the-variants.{Some, None}
@@ -60,17 +60,18 @@ settled TooLong = true
 settled NoSpace = true
 settled OutOfMemory = true
 
--- What a reading of bytes is, to the end.
-pub record Whole (form : Form) (bs : List ℕ) (r : Reading) : Type 0 where
-  pub ended : Ended form bs (r .words) (r .ending)
-  -- whatever stands behind the bytes that a settled refusal names, the reading is the same
-  pub blind : (e : Refusal) → r .ending ≡ Some e → settled e ≡ true → (t : List ℕ) → let p = extent form (r .words) in read-all form (take (p + named form (drop p bs)) bs ++ t) ≡ r
-
 -- commands, and what was read behind them
 abbrev pub followed : List Word → Reading → Reading
 followed ws r = record { words = ws ++ r .words; ending = r .ending }
 
--- Commands that are written, END not among them, are read back whatever stands behind them; and with END last they are the whole recipe.
-pub record Read-back (form : Form) (ws : List Word) : Type 0 where
-  pub among : (t : List ℕ) → read-all form (encode-all form ws ++ t) ≡ followed ws (read-all form t)
-  pub whole : form .has (opcode end) ≡ true → read-all form (encode-all form (ws ++ end ∷ [])) ≡ record { words = ws ++ end ∷ []; ending = None }
+-- What a reading of bytes is, to the end.
+pub record Whole (form : Form) (bs : List ℕ) (r : Reading) : Type 0 where
+  pub ended : Ended form bs (r .words) (r .ending)
+  -- commands with END last, and nowhere else, are read as what they are
+  pub complete : form .has (opcode end) ≡ true → (ws : List Word) → All (Proper form) ws → All Not-end ws → bs ≡ encode-all form (ws ++ end ∷ []) → r ≡ record { words = ws ++ end ∷ []; ending = None }
+  -- where no byte is left, the refusal stands at the recipe's length
+  pub short : r .ending ≡ Some EndOfBytes → extent form (r .words) ≡ length bs
+  -- whatever stands behind the commands before a refusal, they are read
+  pub before : (e : Refusal) → r .ending ≡ Some e → (t : List ℕ) → read-all form (take (extent form (r .words)) bs ++ t) ≡ followed (r .words) (read-all form t)
+  -- whatever stands behind the bytes that a settled refusal names, the reading is the same
+  pub blind : (e : Refusal) → r .ending ≡ Some e → settled e ≡ true → (t : List ℕ) → let p = extent form (r .words) in read-all form (take (p + named form (drop p bs)) bs ++ t) ≡ r

@@ -5,7 +5,7 @@ use mathlib.Core.Logic.{_⊎_}
 use Prim.Native.Nat.{ℕ, suc, _+_}
 use denote.Ref.{RefT}
 use lib.ListN.{length}
-use Rattle.std.specs.declared.option.Option.the-variants.{Some}
+use Rattle.std.specs.declared.option.Option.the-variants.{Some, None}
 use Rattle.std.specs.declared.result.Result.{Result}
 use Rattle.std.specs.declared.result.Result.the-variants.{Ok, Err}
 use Rattle.format.specs.Commands.{Word, wire, machine, rule, par, hide, unless, refine, end, encode, extent, today}
@@ -51,19 +51,19 @@ Lies place (Refine stage) = Unit {0}
 Lies place End = Unit {0}
 
 -- what reading a name answers, told as a read of bytes
-abbrev pub name-read : Result (RefT (List ℕ)) Refusal → Read
-name-read (Ok name) = got (wire (name .now)) (suc (today .width))
-name-read (Err e) = refused e
+abbrev pub name-told : Result (RefT (List ℕ)) Refusal → Read
+name-told (Ok name) = got (wire (name .now)) (suc (today .width))
+name-told (Err e) = refused e
 
 -- what reading a command of n bytes answers, told as a read of bytes
-abbrev pub command-read : ℕ → Result Command Refusal → Read
-command-read n (Ok c) = got (word c) n
-command-read n (Err e) = refused e
+abbrev pub command-told : ℕ → Result Command Refusal → Read
+command-told n (Ok c) = got (word c) n
+command-told n (Err e) = refused e
 
 -- the same where the answer has the number of bytes
-abbrev pub counted-read : Result (Command × ℕ) Refusal → Read
-counted-read (Ok p) = got (word (p .0)) (p .1)
-counted-read (Err e) = refused e
+abbrev pub counted-told : Result (Command × ℕ) Refusal → Read
+counted-told (Ok p) = got (word (p .0)) (p .1)
+counted-told (Err e) = refused e
 
 -- what one read of a recipe answers, told by the values of the operands
 abbrev pub words-told : Result Command RecipeError → Result Word RecipeError
@@ -80,11 +80,15 @@ abbrev pub taken : Read → ℕ
 taken (got w n) = n
 taken (refused r) = 0
 
--- The refusal with which a reading ended, at the sum of the lengths of the commands before it; or want of memory.
+-- what counting the commands of a recipe answers: how many there are; or the refusal, at the sum of the lengths of the commands before it
+abbrev pub counted : Reading → Result ℕ RecipeError
+counted r = elim (r .ending) [ None ↦ Ok (length (r .words)) | Some e ↦ Err (record { refusal = e; position = extent today (r .words) }) ]
+
+-- The refusal with which a reading ended, at the sum of the lengths of the commands before it; or want of memory, where it was not refused.
 abbrev pub Refused-by : Reading → RecipeError → Type 0
-Refused-by r e = ((r .ending ≡ Some (e .refusal)) × (e .position ≡ extent today (r .words))) ⊎ (e ≡ out-of-memory)
+Refused-by r e = ((r .ending ≡ Some (e .refusal)) × (e .position ≡ extent today (r .words))) ⊎ ((e ≡ out-of-memory) × (r .ending ≡ None))
 
 -- commands that stand end to end from an address on, each name within its own
-abbrev pub Lie : Address → List Command → Type 0
-Lie place [] = Unit {0}
-Lie place (c ∷ cs) = Lies (behind place 1) c × Lie (behind place (length (encode today (word c)))) cs
+abbrev pub Names-lie : Address → List Command → Type 0
+Names-lie place [] = Unit {0}
+Names-lie place (c ∷ cs) = Lies (behind place 1) c × Names-lie (behind place (length (encode today (word c)))) cs

@@ -1,16 +1,13 @@
 // The commands of a recipe.
 ghost use mathlib.Core.Path.{_≡_};
 ghost use Rattle.format.specs.Commands.{byte, command-of, size, today};
-ghost use Rattle.format.specs.Reading.{is-end};
-ghost use Rattle.format.specs.Rewriting.{misplaced, opens};
-ghost use Rattle.format.specs.Values.{word};
 use signals::WireSet;
 use signals::wire_set::WireSetDebug;
 use signals::wire_set::WireSetPartialEq;
 
 // The eight kinds of commands.
 #[derive(Clone, Copy, PartialEq, Eq, Debug)]
-pub(crate) enum Opcode {
+pub enum Opcode {
     Wire,
     Machine,
     Rule,
@@ -66,7 +63,7 @@ impl Opcode {
     }
 
     // The byte that begins a command of this kind.
-    pub(crate) fn to_byte(self) -> u8
+    pub fn to_byte(self) -> u8
         ensures { λ r. ⌜ r ≡ byte self ⌝ }
     {
         match self {
@@ -92,28 +89,5 @@ impl Opcode {
             Opcode::Machine | Opcode::Unless | Opcode::Refine => 1,
             Opcode::Par | Opcode::End => 0,
         }
-    }
-}
-
-impl Command<'_> {
-    // Whether it is a RULE that stands where none may, which is elsewhere than in a machine.
-    pub(crate) fn is_misplaced(self, in_machine: bool) -> bool
-        ensures { λ r. ⌜ r ≡ misplaced «in_machine» (word (self .entry)) ⌝ }
-    {
-        matches!(self, Command::Rule(_)) && !in_machine
-    }
-
-    // Whether a RULE may stand straight behind it: it is MACHINE or RULE.
-    pub(crate) fn opens(self) -> bool
-        ensures { λ r. ⌜ r ≡ opens (word (self .entry)) ⌝ }
-    {
-        matches!(self, Command::Machine { .. } | Command::Rule(_))
-    }
-
-    // Whether it is END.
-    pub(crate) fn is_end(self) -> bool
-        ensures { λ r. ⌜ r ≡ is-end (word (self .entry)) ⌝ }
-    {
-        matches!(self, Command::End)
     }
 }

@@ -3,6 +3,7 @@ ghost use mathlib.Core.Path.{_≡_};
 ghost use Prim.Native.Nat.{_≤_};
 ghost use lib.Dec.{eqb};
 ghost use lib.ListN.{length};
+ghost use Rattle.format.specs.Commands.{today};
 ghost use Rattle.format.specs.Names.{capital, name-byte, all-bytes, spelled, well-formed, before-zero};
 use crate::command::NAME_WIDTH;
 
@@ -41,7 +42,7 @@ pub(crate) fn is_spelled(name: &[u8]) -> bool
 
 // Whether a name can stand in a recipe.
 pub fn is_well_formed(name: &[u8]) -> bool
-    ensures { λ r. ⌜ r ≡ well-formed 24 (now (name .entry)) ⌝ }
+    ensures { λ r. ⌜ r ≡ well-formed (today .width) (now (name .entry)) ⌝ }
 {
     is_spelled(name) && name.len() <= NAME_WIDTH
 }

@@ -7,7 +7,7 @@ ghost use Rattle.std.specs.Vec.{made};
 ghost use Rattle.signals.specs.Bytes.{number};
 ghost use Rattle.format.specs.Commands.{size, today};
 ghost use Rattle.format.specs.Reading.{got, operands-read, first-read};
-ghost use Rattle.format.specs.Values.{Lies, behind, rule-word, name-read, command-read, counted-read};
+ghost use Rattle.format.specs.Values.{Lies, behind, rule-word, name-told, command-told, counted-told};
 ghost use Rattle.format.specs.declared.command.Opcode.the-variants.{Wire};
 use crate::command::Command;
 use crate::command::NAME_WIDTH;
@@ -36,8 +36,8 @@ fn wire_set(bytes: &[u8]) -> WireSet
 
 // The name in the field at the front of `operands`.
 fn wire_name(operands: &[u8]) -> Result<&[u8], Refusal>
-    requires { ⌜ 24 ≤ length (now operands) ⌝ }
-    ensures value { λ r. ⌜ name-read r ≡ operands-read today Wire (now (operands .entry)) ⌝ }
+    requires { ⌜ today .width ≤ length (now operands) ⌝ }
+    ensures value { λ r. ⌜ name-told r ≡ operands-read today Wire (now (operands .entry)) ⌝ }
     ensures place { λ r. ⌜ made r (λ name. ptr name ≡ ptr (operands .entry)) ⌝ }
 {
     let length = name::name_length(&operands[0..NAME_WIDTH]);
@@ -65,37 +65,36 @@ fn rule(operands: &[u8]) -> Rule
 // The command whose operands stand at the front of `operands`.
 fn command(opcode: Opcode, operands: &[u8]) -> Result<Command<'_>, Refusal>
     requires { ⌜ size today opcode ≤ length (now operands) ⌝ }
-    ensures value { λ r. ⌜ command-read (suc (size today opcode)) r ≡ operands-read today opcode (now (operands .entry)) ⌝ }
+    ensures value { λ r. ⌜ command-told (suc (size today opcode)) r ≡ operands-read today opcode (now (operands .entry)) ⌝ }
     ensures place { λ r. ⌜ made r (Lies (ptr (operands .entry))) ⌝ }
 {
-    Ok(
-        match opcode {
-            Opcode::Wire => Command::Wire {
-                name: wire_name(operands)?,
-            },
-            Opcode::Machine => Command::Machine {
-                states: operands[0],
-            },
-            Opcode::Rule => Command::Rule(rule(operands)),
-            Opcode::Par => Command::Par,
-            Opcode::Hide => Command::Hide {
-                hidden: wire_set(&operands[0..8]),
-            },
-            Opcode::Unless => Command::Unless { wire: operands[0] },
-            Opcode::Refine => Command::Refine { stage: operands[0] },
-            Opcode::End => {
-                if operands.len() > 0 {
-                    return Err(Refusal::BytesAfterEnd);
-                }
-                Command::End
-            }
+    let command = match opcode {
+        Opcode::Wire => Command::Wire {
+            name: wire_name(operands)?,
         },
-    )
+        Opcode::Machine => Command::Machine {
+            states: operands[0],
+        },
+        Opcode::Rule => Command::Rule(rule(operands)),
+        Opcode::Par => Command::Par,
+        Opcode::Hide => Command::Hide {
+            hidden: wire_set(&operands[0..8]),
+        },
+        Opcode::Unless => Command::Unless { wire: operands[0] },
+        Opcode::Refine => Command::Refine { stage: operands[0] },
+        Opcode::End => {
+            if !operands.is_empty() {
+                return Err(Refusal::BytesAfterEnd);
+            }
+            Command::End
+        }
+    };
+    Ok(command)
 }
 
 // The first command of `bytes`, and the number of its bytes.
 pub(crate) fn first_command(bytes: &[u8]) -> Result<(Command<'_>, usize), Refusal>
-    ensures value { λ r. ⌜ counted-read r ≡ first-read today (now (bytes .entry)) ⌝ }
+    ensures value { λ r. ⌜ counted-told r ≡ first-read today (now (bytes .entry)) ⌝ }
     ensures within { λ r. ⌜ made r (λ p. (0 < p .1) × (p .1 ≤ length (now (bytes .entry)))) ⌝ }
     ensures place { λ r. ⌜ made r (λ p. Lies (behind (ptr (bytes .entry)) 1) (p .0)) ⌝ }
 {

@@ -1,6 +1,6 @@
 // Why bytes are no recipe, or a command was not written.
 ghost use mathlib.Core.Path.{_≡_};
-ghost use Rattle.format.specs.Refusals.{number, out-of-memory};
+ghost use Rattle.format.specs.Refusals.{refusal-number, out-of-memory};
 use std::alloc::AllocError;
 use std::alloc::Refused;
 
@@ -29,7 +29,7 @@ pub enum Refusal {
 impl Refusal {
     // The number by which people know the refusal.
     pub fn number(self) -> u8
-        ensures { λ r. ⌜ r ≡ number self ⌝ }
+        ensures { λ r. ⌜ r ≡ refusal-number self ⌝ }
     {
         match self {
             Refusal::EndOfBytes => 1,
@@ -52,14 +52,19 @@ pub struct RecipeError {
     pub position: usize,
 }
 
+impl RecipeError {
+    // Want of memory, which is about no byte.
+    const OUT_OF_MEMORY: RecipeError = RecipeError {
+        refusal: Refusal::OutOfMemory,
+        position: 0,
+    };
+}
+
 pub impl From<AllocError> for RecipeError as RecipeErrorFromAlloc {
     ghost converts = { λ _ r. r ≡ out-of-memory };
 
     fn from(_error: AllocError) -> RecipeError {
-        RecipeError {
-            refusal: Refusal::OutOfMemory,
-            position: 0,
-        }
+        RecipeError::OUT_OF_MEMORY
     }
 }
 
@@ -67,9 +72,6 @@ pub impl<T: Drop> From<Refused<T>> for RecipeError as RecipeErrorFromRefused {
     ghost converts = { λ _ r. r ≡ out-of-memory };
 
     fn from(_error: Refused<T>) -> RecipeError {
-        RecipeError {
-            refusal: Refusal::OutOfMemory,
-            position: 0,
-        }
+        RecipeError::OUT_OF_MEMORY
     }
 }

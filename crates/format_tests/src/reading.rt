@@ -45,11 +45,12 @@ fn every_first_byte(rt: LibcRuntime) -> Result<(), Fail> {
     Ok(())
 }
 
-// A command of `length` bytes: one byte short, whole with nothing behind it, and whole with END behind it.
+// A command of `length` bytes: cut short at every place, whole with nothing behind it, and whole with END behind it.
 fn boundaries(rt: &LibcRuntime, recipe: &[u8], length: usize) -> Result<(), Fail> {
     check(length > 0 && length < recipe.len())?;
-    check_eq(outcome(rt, &recipe[0..length - 1]), Err((3, 0)))?;
-    check_eq(outcome(rt, &recipe[0..1]), Err((3, 0)))?;
+    for cut in 1..length {
+        check_eq(outcome(rt, &recipe[0..cut]), Err((3, 0)))?;
+    }
     check_eq(outcome(rt, &recipe[0..length]), Err((1, length)))?;
     check_eq(outcome(rt, recipe), Ok(2))
 }

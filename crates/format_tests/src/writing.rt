@@ -3,11 +3,11 @@ use format::Refusal;
 use format::Rule;
 use format::refusal::RefusalDebug;
 use format::refusal::RefusalPartialEq;
-use format::rewrite::rewrite;
-use format::writer::Unwritten;
-use format::writer::Writer;
 use signals::WireSet;
 use std::test::*;
+use writing::rewrite::rewrite;
+use writing::writer::Unwritten;
+use writing::writer::Writer;
 
 // The writer that goes on, or a failed test.
 fn wrote<W: Drop, X: Drop>(written: Result<W, Unwritten<X>>) -> Result<W, Fail> {
@@ -90,10 +90,33 @@ fn space() -> Result<(), Fail> {
     check_eq(
         refused(Writer::new().par(&mut [0u8; 0])),
         Some((Refusal::NoSpace, 0)),
+    )
+}
+
+#[test]
+fn space_of_the_others() -> Result<(), Fail> {
+    check_eq(refused(Writer::new().unless(&mut [0u8; 2], 1)), None)?;
+    check_eq(
+        refused(Writer::new().unless(&mut [0u8; 1], 1)),
+        Some((Refusal::NoSpace, 0)),
     )?;
+    check_eq(refused(Writer::new().refine(&mut [0u8; 2], 1)), None)?;
+    check_eq(
+        refused(Writer::new().refine(&mut [0u8; 1], 1)),
+        Some((Refusal::NoSpace, 0)),
+    )?;
+    check_eq(refused(Writer::new().end(&mut [0u8; 1])), None)?;
     check_eq(
         refused(Writer::new().end(&mut [0u8; 0])),
         Some((Refusal::NoSpace, 0)),
+    )?;
+    check_eq(
+        refused(Writer::new().wire(&mut [0u8; 25], b"ABCDEFGHIJKLMNOPQRSTUVW")),
+        None,
+    )?;
+    check_eq(
+        refused(Writer::new().wire(&mut [0u8; 25], b"ABCDEFGHIJKLMNOPQRSTUVWX")),
+        None,
     )
 }
 
@@ -129,7 +152,6 @@ fn a_refused_rule_hands_back_the_writer_in_its_machine() -> Result<(), Fail> {
         Ok(_) => Err(Fail::new("28 bytes were enough for MACHINE and RULE")),
         Err(unwritten) => {
             check_eq(unwritten.refusal, Refusal::NoSpace)?;
-            check_eq(unwritten.writer.position(), 2)?;
             check_eq(unwritten.writer.close().position(), 2)?;
             check_eq(out[2], 0xee)
         }
@@ -165,5 +187,12 @@ fn a_rule_elsewhere_is_refused() -> Result<(), Fail> {
     check_eq(rewritten(&rule[0..], &mut out), Err((9, 1)))?;
     check_eq(rewritten(&rule[0..27], &mut out), Err((3, 1)))?;
     check_eq(rewritten(b"\x02\x01\x04\x09", &mut out), Err((2, 3)))?;
+    check_eq(
+        rewritten(
+            b"\x02\x01\x05\0\0\0\0\0\0\0\0\x03\0\0\0\0\0\0\0\0\0\0\0\0\0\0\0\0\0\0\0\0\0\0\0\0\0\0\x08",
+            &mut out,
+        ),
+        Err((9, 11)),
+    )?;
     check_eq(&out[0..], b"\xee\xee\xee\xee")
 }

@@ -10,7 +10,7 @@ use Rattle.std.specs.declared.option.Option.{Option}
 use Rattle.std.specs.declared.option.Option.the-variants.{Some, None}
 use Rattle.format.specs.Commands.{Word, extent, today}
 use Rattle.format.specs.Reading.{read-all}
-use Rattle.format.specs.Refusals.{number}
+use Rattle.format.specs.Refusals.{refusal-number}
 use Rattle.format.specs.declared.refusal.Refusal.{Refusal}
 use Rattle.format.specs.declared.refusal.Refusal.the-variants.{TooLong}
 use Rattle.reports.specs.Names.{names-of}
@@ -39,8 +39,8 @@ wire-list names = wires-line (length names) ++ wire-lines 0 names
 -- the wire list of what was read, or the refusal with which reading ended
 abbrev pub reading-report : List Word → Option Refusal → List ℕ
 reading-report ws None = wire-list (names-of ws)
-reading-report ws (Some r) = load-line (number r) (extent today ws)
+reading-report ws (Some r) = load-line (refusal-number r) (extent today ws)
 
 -- what is printed of a file's bytes, of which a recipe has at most 16,384
 abbrev pub wire-report : List ℕ → List ℕ
-wire-report bytes = let r = read-all today bytes in cond (leb (length bytes) 16384) (reading-report (r .words) (r .ending)) (load-line (number TooLong) 0)
+wire-report bytes = let r = read-all today bytes in cond (leb (length bytes) 16384) (reading-report (r .words) (r .ending)) (load-line (refusal-number TooLong) 0)

@@ -13,13 +13,11 @@ use crate::lines::load_line;
 use format::Command;
 use format::RecipeError;
 use format::Refusal;
+use format::recipe::MAX_RECIPE;
 use format::recipe::read_commands;
 use std::alloc::AllocError;
 use std::alloc::Global;
 use std::str;
-
-// The most bytes that a recipe's file may have.
-pub const MAX_RECIPE: usize = 16_384;
 
 // The names of the wires that commands declare, in order: the same parts of the recipe that the commands hold.
 pub fn wire_names<'a>(heap: Global, commands: &[Command<'a>]) -> Result<Vec<&'a [u8]>, AllocError>

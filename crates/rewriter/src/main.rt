@@ -1,11 +1,13 @@
 // Rewrites the recipe on standard input to standard output. A refusal is told on standard error, and ends the program with status 1.
-use format::rewrite::rewrite;
+use format::RecipeError;
 use reports::lines::load_line;
 use std::error::AnyError;
 use std::io::Read;
 use std::io::Write;
+use writing::rewrite::rewrite;
 
-fn run(rt: &LibcRuntime) -> Result<(), AnyError> {
+// Rewrites what is read, and answers why it is refused, if it is.
+fn run(rt: &LibcRuntime) -> Result<Option<RecipeError>, AnyError> {
     let heap = rt.alloc();
     let mut recipe = Vec::new(heap);
     rt.stdin().read_to_end(&mut recipe)?;
@@ -13,12 +15,18 @@ fn run(rt: &LibcRuntime) -> Result<(), AnyError> {
     match rewrite(recipe.as_slice(), out.as_mut_slice()) {
         Ok(length) => {
             rt.stdout().write_all(&out[0..length])?;
-            Ok(())
+            Ok(None)
         }
-        Err(error) => Err(load_line(heap, error)?.into()),
+        Err(error) => Ok(Some(error)),
     }
 }
 
 fn main(rt: LibcRuntime) -> Result<(), AnyError> {
-    rt.report(run(&rt))
+    match rt.report(run(&rt))? {
+        None => Ok(()),
+        Some(error) => {
+            rt.eprint(load_line(rt.alloc(), error)?)?;
+            Err("the recipe is refused".into())
+        }
+    }
 }

@@ -14,9 +14,8 @@ impl WireSet {
     pub fn from_be_bytes(bytes: [u8; 8]) -> WireSet
         ensures { λ r. ⌜ r .bits ≡ number bytes ⌝ }
     {
-        WireSet {
-            bits: u64::from_be_bytes(bytes),
-        }
+        let bits = u64::from_be_bytes(bytes);
+        WireSet { bits }
     }
 
     // The eight bytes that write the set, the most significant first.
@@ -39,9 +38,8 @@ impl WireSet {
         ensures value { λ r. ⌜ r .bits ≡ union (self .bits) (other .bits) ⌝ }
         ensures wires { λ r. ⌜ Union-wires (self .bits) (other .bits) (r .bits) ⌝ }
     {
-        WireSet {
-            bits: self.bits | other.bits,
-        }
+        let bits = self.bits | other.bits;
+        WireSet { bits }
     }
 
     // The wires of both sets.
@@ -49,9 +47,8 @@ impl WireSet {
         ensures value { λ r. ⌜ r .bits ≡ intersection (self .bits) (other .bits) ⌝ }
         ensures wires { λ r. ⌜ Intersection-wires (self .bits) (other .bits) (r .bits) ⌝ }
     {
-        WireSet {
-            bits: self.bits & other.bits,
-        }
+        let bits = self.bits & other.bits;
+        WireSet { bits }
     }
 
     // The wires of this set that `other` has not.
@@ -59,9 +56,8 @@ impl WireSet {
         ensures value { λ r. ⌜ r .bits ≡ difference (self .bits) (other .bits) ⌝ }
         ensures wires { λ r. ⌜ Difference-wires (self .bits) (other .bits) (r .bits) ⌝ }
     {
-        WireSet {
-            bits: self.bits & !other.bits,
-        }
+        let bits = self.bits & !other.bits;
+        WireSet { bits }
     }
 
     // Whether each wire of this set is in `other`.

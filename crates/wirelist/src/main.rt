@@ -1,5 +1,5 @@
 // Prints the wire list of the recipe in line.rcp: how many wires it declares, and a line for each.
-use reports::wires::MAX_RECIPE;
+use format::recipe::MAX_RECIPE;
 use reports::wires::wire_list;
 use std::error::AnyError;
 use std::fs::File;

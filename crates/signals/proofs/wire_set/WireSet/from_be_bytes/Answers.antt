@@ -4,4 +4,4 @@ use Rattle.signals.proofs.Numbers.{number-of-eight}
 use Rattle.signals.proofs.wire_set.WireSet.from_be_bytes.Needs as need
 
 pub returns : need.returns
-returns c = c .from-be-bytes .ensures ∙ number-of-eight (c .args .bytes) (search needs)
+returns c = c .from-be-bytes-bits .ensures ∙ number-of-eight (c .args .bytes) (search needs)

@@ -1,0 +1,4 @@
+pub mod Writing
+pub mod Writers
+pub mod Rewriting
+pub mod Pens
