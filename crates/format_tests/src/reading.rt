@@ -6,7 +6,7 @@ use format::refusal::RecipeErrorDebug;
 use std::test::*;
 
 // What reading a whole recipe answers: how many commands it has, or the refusal's number and position.
-pub fn outcome(rt: &LibcRuntime, recipe: &[u8]) -> Result<usize, (u8, usize)> {
+pub(crate) fn outcome(rt: &LibcRuntime, recipe: &[u8]) -> Result<usize, (u8, usize)> {
     match read_commands(rt.alloc(), recipe) {
         Ok(commands) => Ok(commands.len()),
         Err(error) => Err((error.refusal.number(), error.position)),
