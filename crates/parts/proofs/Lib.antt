@@ -1,0 +1,6 @@
+pub mod Searching
+pub mod Accepting
+pub mod Running
+pub mod Working
+pub mod Likeness
+pub mod Calling

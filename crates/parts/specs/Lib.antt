@@ -1,0 +1,6 @@
+pub mod Courses
+pub mod Rules
+pub mod Trees
+pub mod Readings
+pub mod Plans
+pub mod Calls

@@ -1,0 +1,4 @@
+// Parts: what reacts.
+pub mod fault;
+
+pub use fault::Fault;
