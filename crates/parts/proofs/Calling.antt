@@ -2,12 +2,13 @@
 use mathlib.Core.Path.{_≡_, refl, sym, ap, subst, _∙_}
 use mathlib.Core.List.{List, [], _∷_, _++_}
 use Prim.Native.Nat.{ℕ}
+use Rattle.parts.specs.declared.call.Call.{Call as Calling}
 use Rattle.std.specs.declared.result.Result.the-variants.{Ok, Err}
 use Rattle.std.specs.shelf.Lists.{All}
 use Rattle.parts.specs.Courses.{Answer, Course, after-answer, after, run-on, Set, Same}
 use Rattle.parts.specs.Trees.{answer-of, next-of, restarted, course-of}
 use Rattle.parts.specs.Plans.{Plan, worked, Working, begin, plan-course, Alike}
-use Rattle.parts.specs.Calls.{Call, look, step, restart, Reply, answered, Put, in-turn, left-by-all, reply, left-by, after-calls, part-reply, part-left, part-replies, part-after, Reached, As-planned, Promise}
+use Rattle.parts.specs.Calls.{Call, look, step, restart, Reply, answered, Put, in-turn, left-by-all, reply, left-by, after-calls, part-reply, part-left, part-replies, part-after, Reached, As-planned, Promise, Promised, call-of}
 use Rattle.parts.proofs.Accepting.{order, accepting, one-reading}
 use Rattle.parts.proofs.Running.{run-after}
 use Rattle.parts.proofs.Working.{restart-twice, restart-next, restart-begin}
@@ -118,3 +119,15 @@ reached-by p fresh f c earlier k h r = record {
     put-last : (ks : List Call) → All Put ks → All Put (ks ++ k ∷ [])
     put-last [] w = (h, tt)
     put-last (l ∷ ks) w = (w .0, put-last ks (w .1))
+
+-- One call on a part, whose reply r and course d behind it are those of the part's courses.
+pub promised : (p : Plan) (fresh c d : Course ℕ) (k : Call) (r : Reply) → fresh ≡ plan-course p → Put k → r ≡ part-reply c k → d ≡ part-left fresh c k → Promised p c (k ∷ []) (r ∷ []) d
+promised p fresh c d k r f h e l earlier z = subst (λ u. Promise p earlier (k ∷ []) (u ∷ []) d) (sym e) (subst (λ u. Promise p earlier (k ∷ []) (part-reply c k ∷ []) u) (sym l) (promise p fresh (λ xs x _ _. ap (λ g. g xs x) f) c earlier (k ∷ []) (h, tt) z))
+
+-- The program's call k, which is the call j: what its contract says follows from what is known of j.
+pub call-facts : (p : Plan) (fresh c d : Course ℕ) (k : Calling) (j : Call) (r : Reply) → call-of k ≡ j → fresh ≡ plan-course p → Put j → r ≡ part-reply c j → d ≡ part-left fresh c j → (r ≡ part-reply c (call-of k)) × (d ≡ part-left fresh c (call-of k)) × Promised p c (call-of k ∷ []) (r ∷ []) d
+call-facts p fresh c d k j r e f h a l = (
+  a ∙ ap (part-reply c) (sym e),
+  l ∙ ap (part-left fresh c) (sym e),
+  subst (λ i. Promised p c (i ∷ []) (r ∷ []) d) (sym e) (promised p fresh c d j r f h a l),
+)

@@ -4,7 +4,11 @@ use mathlib.Core.List.{List, [], _∷_, _++_}
 use Prim.Native.Nat.{ℕ}
 use Rattle.std.specs.declared.result.Result.the-variants.{Ok}
 use Rattle.std.specs.shelf.Lists.{All}
-use Rattle.parts.specs.Courses.{Answer, Course, after, run-on, Set, Same}
+use Rattle.parts.specs.declared.call.Call.{Call as Calling}
+use Rattle.parts.specs.declared.call.Call.the-variants.{Look, Step, Restart}
+use Rattle.parts.specs.declared.call.Reply.{Reply as Replying}
+use Rattle.parts.specs.declared.call.Reply.the-variants.{Answer as Told, Restarted}
+use Rattle.parts.specs.Courses.{told, Answer, Course, after, run-on, Set, Same}
 use Rattle.parts.specs.Trees.{answer-of, next-of, restarted, course-of}
 use Rattle.parts.specs.Plans.{Plan, worked, Working, begin, Alike}
 use Rattle.parts.specs.Readings.{Accepted, All-in-order, One-reading}
@@ -90,3 +94,17 @@ pub record Promise (p : Plan) (earlier calls : List Call) (answers : List Reply)
   pub reads : (x o : ℕ) → Set x → d [] x ≡ Ok o → One-reading worked (after-calls (begin p) (earlier ++ calls)) x o
   -- and all of it is as any alike plan works out
   pub exchanged : (q : Plan) → Alike p q → As-planned q earlier calls answers d
+
+-- the program's calls and replies
+abbrev pub call-of : Calling → Call
+call-of (Look input) = look (input .bits)
+call-of (Step input) = step (input .bits)
+call-of Restart = restart
+
+abbrev pub reply-of : Replying → Reply
+reply-of (Told answer) = answered (told answer)
+reply-of Restarted = started-over
+
+-- the promise, wherever earlier calls led the part: p is its plan, c its course before the calls and d behind them
+abbrev pub Promised : Plan → Course ℕ → List Call → List Reply → Course ℕ → Type 0
+Promised p c calls answers d = (earlier : List Call) → Reached p c earlier → Promise p earlier calls answers d

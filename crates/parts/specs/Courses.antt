@@ -7,6 +7,9 @@ use Rattle.std.specs.declared.result.Result.{Result}
 use Rattle.std.specs.declared.result.Result.the-variants.{Ok, Err}
 use Rattle.std.specs.shelf.Lists.{All}
 use Rattle.parts.specs.declared.fault.Fault.{Fault}
+use Rattle.signals.specs.declared.wire_set.WireSet.{WireSet}
+use Rattle.signals.specs.Sets.{intersection, subset}
+use mathlib.Core.Bool.{true}
 
 abbrev pub Answer : Type 0 → Type 0
 Answer A = Result A Fault
@@ -47,3 +50,22 @@ Set x = x < 2 ^ 64
 -- courses that agree on all lists of sets of wires
 abbrev pub Same : {A : Type 0} → Course A → Course A → Type 0
 Same c d = (xs : List ℕ) (x : ℕ) → All Set xs → Set x → c xs x ≡ d xs x
+
+-- wires outside the set alter no answer, at any place of the list
+abbrev pub Same-read : ℕ → List ℕ → List ℕ → Type 0
+Same-read r [] [] = Unit {0}
+Same-read r [] (y ∷ ys) = ⊥
+Same-read r (x ∷ xs) [] = ⊥
+Same-read r (x ∷ xs) (y ∷ ys) = (intersection x r ≡ intersection y r) × Same-read r xs ys
+
+abbrev pub Unread : {A : Type 0} → ℕ → Course A → Type 0
+Unread r c = (xs ys : List ℕ) (x y : ℕ) → Same-read r xs ys → intersection x r ≡ intersection y r → c xs x ≡ c ys y
+
+-- no wire outside the set is emitted
+abbrev pub Named : ℕ → Course ℕ → Type 0
+Named e c = (xs : List ℕ) (x o : ℕ) → c xs x ≡ Ok o → subset o e ≡ true
+
+-- the answer that a call tells
+abbrev pub told : Result WireSet Fault → Answer ℕ
+told (Ok set) = Ok (set .bits)
+told (Err fault) = Err fault

@@ -1,4 +1,11 @@
 // Parts: what reacts.
+pub mod call;
 pub mod fault;
+pub mod part;
+pub mod performing;
 
+pub use call::Call;
+pub use call::Reply;
 pub use fault::Fault;
+pub use part::Part;
+pub use performing::perform_call;
