@@ -4,3 +4,5 @@ pub mod Running
 pub mod Working
 pub mod Likeness
 pub mod Calling
+pub mod Leaves
+pub mod Counting

@@ -4,3 +4,4 @@ pub mod Trees
 pub mod Readings
 pub mod Plans
 pub mod Calls
+pub mod Counters
