@@ -1,4 +1,6 @@
 // The byte format of recipes: its commands, and the reader that takes them from bytes.
+#![tactic(auto)]
+
 pub mod command;
 pub mod name;
 mod parse;

@@ -1,4 +1,6 @@
 // Examples of recipes read, written and listed. The expected values are worked out by hand from docs/FORMAT.md.
+#![tactic(auto)]
+
 #[cfg(test)]
 mod example;
 #[cfg(test)]

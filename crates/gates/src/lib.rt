@@ -1,4 +1,6 @@
 // A part that refuses, for examples.
+#![tactic(auto)]
+
 pub mod gate;
 
 pub use gate::Gate;

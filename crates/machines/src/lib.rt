@@ -1,4 +1,6 @@
 // The parts that are no compositions: machines and counters.
+#![tactic(auto)]
+
 pub mod asking;
 pub mod machine;
 pub mod machine_part;

@@ -1,5 +1,7 @@
 // Examples of machines, counters, runs and lists of calls. The expected values are worked out by hand from
 // docs/LANGUAGE.md.
+#![tactic(auto)]
+
 #[cfg(test)]
 mod calling;
 #[cfg(test)]

@@ -1,4 +1,6 @@
 // The four operators of Argos over any parts.
+#![tactic(auto)]
+
 pub mod beside;
 pub mod encapsulation;
 pub mod hide;

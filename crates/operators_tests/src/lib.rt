@@ -1,4 +1,6 @@
 // Examples of the four operators. The expected values are worked out by hand from docs/LANGUAGE.md.
+#![tactic(auto)]
+
 #[cfg(test)]
 mod example;
 #[cfg(test)]

@@ -1,4 +1,6 @@
 // Parts: what reacts.
+#![tactic(auto)]
+
 pub mod call;
 pub mod count;
 pub mod counter;

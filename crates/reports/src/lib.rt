@@ -1,3 +1,5 @@
 // What the programs print.
+#![tactic(auto)]
+
 pub mod lines;
 pub mod wires;

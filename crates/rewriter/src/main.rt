@@ -1,4 +1,6 @@
 // Rewrites the recipe on standard input to standard output. A refusal is told on standard error, and ends the program with status 1.
+#![tactic(auto)]
+
 use anyhow::anyhow;
 use format::RecipeError;
 use reports::lines::load_line;

@@ -1,4 +1,6 @@
 // Rules of state machines.
+#![tactic(auto)]
+
 pub mod firing;
 pub mod rule;
 

@@ -1,4 +1,6 @@
 // The search over the settings of an encapsulation.
+#![tactic(auto)]
+
 pub mod findings;
 pub mod hidden;
 pub mod hiding;

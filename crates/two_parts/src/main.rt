@@ -1,5 +1,7 @@
 // Builds a machine and a counter, runs both over the same ticks, performs a list of calls on the machine, and prints
 // what each tick and each call is answered with.
+#![tactic(auto)]
+
 use machines::{Counter, Machine};
 use parts::{Call, Fault, Part, Reply, perform, run};
 use rules::Rule;

@@ -1,4 +1,6 @@
 // Prints the wire list of the recipe in line.rcp: how many wires it declares, and a line for each.
+#![tactic(auto)]
+
 use format::recipe::MAX_RECIPE;
 use reports::wires::wire_list;
 use std::fs::File;

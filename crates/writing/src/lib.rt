@@ -1,4 +1,6 @@
 // Writing recipes: the writer in its three states, and rewriting.
+#![tactic(auto)]
+
 mod encode;
 mod pen;
 pub mod rewrite;
