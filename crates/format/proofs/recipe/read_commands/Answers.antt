@@ -8,68 +8,68 @@ use Rattle.format.proofs.recipe.read_commands.Goals as goal
 use Rattle.format.proofs.recipe.read_commands.Goals.{In-ok-command}
 
 -- the command that was read
-here : (c : In-ok-command) → (n : ℕ) × (first_read today c.loop-commands.reader.rest.now ≡ got (word c.in-ok-command.command) n)
-here c = got_from _ (word c.in-ok-command.command) c.loop-commands.reader.position c.in-ok-command.ensures.value
+here : (c : In_ok-command) → (n : ℕ) × (first_read today c.loop-commands.reader.rest.now ≡ got (word c.in_ok-command.command) n)
+here c = got_from _ (word c.in_ok-command.command) c.loop-commands.reader.position c.in_ok-command.ensures.value
 
 pub loop-commands-init : goal.loop-commands-init
 loop-commands-init c =
     start c.args.recipe.now _ c.new-reader.result.rest _ _
-    (ap (λ r. r.now) c.new-reader.ensures.rest) refl c.new-reader.ensures.position c.in-ok-commands.ensures.items (bytes_from c.args.recipe.now c.type-inv.recipe)
+    (ap (λ r. r.now) c.new-reader.ensures.rest) refl c.new-reader.ensures.position c.in_ok-commands.ensures.items (bytes_from c.args.recipe.now c.type_inv.recipe)
 
-pub returns-in-err-count : goal.returns-in-err-count
-returns-in-err-count c =
-    let p = err_from_is_err_and c.from-residual.result c.from-residual.ensures.1 in
-    rw (p.1, p.2) (record { value = counted_refused _ c.in-err-count.field-0.0 c.in-err-count.ensures.value; law = c.count-commands.ensures.law; names = tt })
+pub returns-in_err-count : goal.returns-in_err-count
+returns-in_err-count c =
+    let p = err_from_is_err_and c.from_residual.result c.from_residual.ensures.1 in
+    rw (p.1, p.2) (record { value = counted_refused _ c.in_err-count.field-0.0 c.in_err-count.ensures.value; law = c.count_commands.ensures.law; names = tt })
 
-pub returns-in-err-commands : goal.returns-in-err-commands
-returns-in-err-commands c =
-    let p = err_from_is_err_and c.from-residual-in-err-commands.result c.from-residual-in-err-commands.ensures.1 in
-    rw p.1 (record { value = inr (p.2, counted_ends _ c.in-ok-count.count c.in-ok-count.ensures.value); law = c.count-commands.ensures.law; names = tt })
+pub returns-in_err-commands : goal.returns-in_err-commands
+returns-in_err-commands c =
+    let p = err_from_is_err_and c.from_residual-in_err-commands.result c.from_residual-in_err-commands.ensures.1 in
+    rw p.1 (record { value = inr (p.2, counted_ends _ c.in_ok-count.count c.in_ok-count.ensures.value); law = c.count_commands.ensures.law; names = tt })
 
-pub returns-in-err-command : goal.returns-in-err-command
-returns-in-err-command c =
-    let p = err_from_is_err_and c.from-residual-in-err-command.result c.from-residual-in-err-command.ensures.1 in
-    let e = c.in-err-command.field-0.0 in
+pub returns-in_err-command : goal.returns-in_err-command
+returns-in_err-command c =
+    let p = err_from_is_err_and c.from_residual-in_err-command.result c.from_residual-in_err-command.ensures.1 in
+    let e = c.in_err-command.field-0.0 in
     rw (p.1, p.2) (record {
-      value = stopped _ _ _ _ c.loop-commands.invariant.walked e (refused_from (first_read today c.loop-commands.reader.rest.now) e c.loop-commands.reader.position c.in-err-command.ensures.value);
-      law = c.count-commands.ensures.law;
+      value = stopped _ _ _ _ c.loop-commands.invariant.walked e (refused_from (first_read today c.loop-commands.reader.rest.now) e c.loop-commands.reader.position c.in_err-command.ensures.value);
+      law = c.count_commands.ensures.law;
       names = tt;
     })
 
-pub returns-in-err-push : goal.returns-in-err-push
-returns-in-err-push c =
-    let p = err_from_is_err_and c.from-residual-in-err-push.result c.from-residual-in-err-push.ensures.1 in
-    rw p.1 (record { value = inr (p.2, counted_ends _ c.in-ok-count.count c.in-ok-count.ensures.value); law = c.count-commands.ensures.law; names = tt })
+pub returns-in_err-push : goal.returns-in_err-push
+returns-in_err-push c =
+    let p = err_from_is_err_and c.from_residual-in_err-push.result c.from_residual-in_err-push.ensures.1 in
+    rw p.1 (record { value = inr (p.2, counted_ends _ c.in_ok-count.count c.in_ok-count.ensures.value); law = c.count_commands.ensures.law; names = tt })
 
 pub returns-then-ends : goal.returns-then-ends
 returns-then-ends c =
-    let here-is = here (goal.at.returns-then-ends c).In-ok-command in
-    let command = c.in-ok-command.command in
-    let items = c.in-ok-push.ensures.items in
+    let here-is = here (goal.at.returns-then-ends c).In_ok-command in
+    let command = c.in_ok-command.command in
+    let items = c.in_ok-push.ensures.items in
     let at = ap (λ r. r.ptr) c.new-reader.ensures.rest in
     record {
       value = done _ _ _ _ _ c.loop-commands.invariant command here-is.0 here-is.1 (sym c.if-ends.ensures) ∙ ap (λ cs. record { words = map word cs; ending = None }) (sym items);
-      law = c.count-commands.ensures.law;
-      names = subst (λ p. NamesLie p (vec_items c.push.new.self)) at (subst (NamesLie c.new-reader.result.rest.ptr) (sym items) (names_more _ _ _ _ _ c.loop-commands.invariant command here-is.0 here-is.1 c.in-ok-command.ensures.name));
+      law = c.count_commands.ensures.law;
+      names = subst (λ p. NamesLie p (vec_items c.push.new.self)) at (subst (NamesLie c.new-reader.result.rest.ptr) (sym items) (names_more _ _ _ _ _ c.loop-commands.invariant command here-is.0 here-is.1 c.in_ok-command.ensures.name));
     }
 
 pub loop-commands-smaller : goal.loop-commands-smaller
 loop-commands-smaller c =
-    let here-is = here (goal.at.loop-commands-smaller c).In-ok-command in
-    let command = c.in-ok-command.command in
+    let here-is = here (goal.at.loop-commands-smaller c).In_ok-command in
+    let command = c.in_ok-command.command in
     let bs = c.loop-commands.reader.rest.now in
-    let rest = c.in-ok-command.ensures.rest ∙ ap (λ r. drop (taken r) bs) here-is.1 in
+    let rest = c.in_ok-command.ensures.rest ∙ ap (λ r. drop (taken r) bs) here-is.1 in
     let more = some _ _ _ _ c.loop-commands.invariant.walked (word command) here-is.0 here-is.1 in
     let fits = enough _ _ _ _ c.loop-commands.invariant.walked (word command) here-is.0 here-is.1 in
     omega (arith, ap length rest, length-drop here-is.0 bs)
 
 pub loop-commands-preserved : goal.loop-commands-preserved
 loop-commands-preserved c =
-    let here-is = here (goal.at.loop-commands-preserved c).In-ok-command in
-    let command = c.in-ok-command.command in
+    let here-is = here (goal.at.loop-commands-preserved c).In_ok-command in
+    let command = c.in_ok-command.command in
     let reader = c.loop-commands.reader in
-    let told = c.in-ok-command.ensures in
-    subst (Sofar c.args.recipe.now c.new-reader.result.rest.ptr c.read.new.self.rest c.read.new.self.position) (sym c.in-ok-push.ensures.items)
+    let told = c.in_ok-command.ensures in
+    subst (Sofar c.args.recipe.now c.new-reader.result.rest.ptr c.read.new.self.rest c.read.new.self.position) (sym c.in_ok-push.ensures.items)
     (one_more _ _ _ _ _ c.loop-commands.invariant command here-is.0 here-is.1 told.name _ _ (sym c.if-ends.ensures)
     (told.rest ∙ ap (λ r. drop (taken r) reader.rest.now) here-is.1)
     (told.place ∙ ap (λ r. behind reader.rest.ptr (taken r)) here-is.1)

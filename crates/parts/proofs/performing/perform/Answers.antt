@@ -27,9 +27,9 @@ pub loop-i-preserved : goal.loop-i-preserved
 loop-i-preserved g c =
     let part = c.args.part.now in
     let here = c.loop-i.part in
-    let told = c.perform-call.ensures in
+    let told = c.perform_call.ensures in
     let kept = c.loop-i.invariant.1 in (
-      done_next (g.P.Part.plan part) (g.P.Part.plan here) (g.P.Part.fresh part) (g.P.Part.fresh here) (g.P.Part.course part) (g.P.Part.course here) (g.P.Part.course c.perform-call.new.part) c.args.calls.now c.args.replies.now c.loop-i.replies c.loop-i.i _ c.perform-call.result c.loop-i.invariant.0 kept.plan_kept kept.fresh_kept c.loop-i-test.true c.if-replies-calls.false told.value told.course told.promise,
+      done_next (g.P.Part.plan part) (g.P.Part.plan here) (g.P.Part.fresh part) (g.P.Part.fresh here) (g.P.Part.course part) (g.P.Part.course here) (g.P.Part.course c.perform_call.new.part) c.args.calls.now c.args.replies.now c.loop-i.replies c.loop-i.i _ c.perform_call.result c.loop-i.invariant.0 kept.plan_kept kept.fresh_kept c.loop-i-test.true c.if-replies-calls.false told.value told.course told.promise,
       kept_more kept told.fresh told.reads told.emits told.plan,
     )
 

@@ -6,11 +6,11 @@ use Rattle.reports.specs.Names.{shown, Spelled}
 use Rattle.reports.proofs.Texts.{line_more}
 use Rattle.reports.proofs.wires.list.Goals as goal
 
-pub wire-line-requires : goal.wire-line-requires
-wire-line-requires c = All-get_or Spelled c.args.names.now c.loop-wire.wire _ c.loop-wire-test.true c.requires
+pub wire_line-requires : goal.wire_line-requires
+wire_line-requires c = All-get_or Spelled c.args.names.now c.loop-wire.wire _ c.loop-wire-test.true c.requires
 
 pub loop-wire-init : goal.loop-wire-init
-loop-wire-init c = c.in-ok-text.ensures.ok ∙ sym (append-nil (wires_line (length c.args.names.now)))
+loop-wire-init c = c.in_ok-text.ensures.ok ∙ sym (append-nil (wires_line (length c.args.names.now)))
 
 pub loop-wire-preserved : goal.loop-wire-preserved
 loop-wire-preserved c =
@@ -19,8 +19,8 @@ loop-wire-preserved c =
     let head = wires_line (length names) in
     let lines = wire_lines 0 (map shown (take i names)) in
     let line = wire_line_text i (shown (get_or names i _)) in
-    c.in-ok-push-str.ensures.bytes
-    ∙ (λ j. c.loop-wire.invariant j ++ (c.as-str.ensures.value ∙ c.in-ok-line.ensures) j)
+    c.in_ok-push_str.ensures.bytes
+    ∙ (λ j. c.loop-wire.invariant j ++ (c.as_str.ensures.value ∙ c.in_ok-line.ensures) j)
     ∙ append_assoc head lines line
     ∙ ap (λ t. head ++ t) (sym (line_more names i _ c.loop-wire-test.true))
 

@@ -10,8 +10,8 @@ loop-command-preserved c =
     let cs = c.args.commands.now in
     let more = refs_more cs c.loop-command.command-index _ c.loop-command-test.true in
     elim c.match-command.branch [
-      | in-Wire+in-ok-push w ↦ ap vec_items w.names-is ∙ w.in-ok-push.ensures.items ∙ (λ i. c.loop-command.invariant i ++ name_ref (sym w.in-Wire.is i)) ∙ sym more
-      | in-default w ↦ ap vec_items w.names-is ∙ c.loop-command.invariant ∙ sym (append-nil _) ∙ ap (λ t. name_refs (take c.loop-command.command-index cs) ++ t) (sym (other_name _ w.in-default.not-Wire)) ∙ sym more
+      | in-Wire+in_ok-push w ↦ ap vec_items w.names-is ∙ w.in_ok-push.ensures.items ∙ (λ i. c.loop-command.invariant i ++ name_ref (sym w.in-Wire.is i)) ∙ sym more
+      | in_default w ↦ ap vec_items w.names-is ∙ c.loop-command.invariant ∙ sym (append-nil _) ∙ ap (λ t. name_refs (take c.loop-command.command-index cs) ++ t) (sym (other_name _ w.in_default.not-Wire)) ∙ sym more
     ]
 
 pub returns : goal.returns

@@ -13,5 +13,5 @@ returns c =
     let fit = le-leb (at + length bytes) (length out) room in
     record {
       value = sym (cond-true _ _ _ fit);
-      output = placed_is at _ bytes _ out c.copy-from-slice.ensures.after long ∙ sym (cond-true _ _ _ fit);
+      output = placed_is at _ bytes _ out c.copy_from_slice.ensures.after long ∙ sym (cond-true _ _ _ fit);
     }

@@ -9,7 +9,7 @@ filled b from to present absent emits = put_mid 19 8 (put_mid 11 8 (put_mid 3 8 
 pub returns : goal.returns
 unfolding filled
 returns c = λ i.
-    filled (c.to-byte.ensures i) c.args.rule.from c.args.rule.to
-    ((c.copy-from-slice.ensures.after ∙ c.to-be-bytes.ensures.value) i)
-    ((c.copy-from-slice-2.ensures.after ∙ c.to-be-bytes-2.ensures.value) i)
-    ((c.copy-from-slice-3.ensures.after ∙ c.to-be-bytes-3.ensures.value) i)
+    filled (c.to_byte.ensures i) c.args.rule.from c.args.rule.to
+    ((c.copy_from_slice.ensures.after ∙ c.to_be_bytes.ensures.value) i)
+    ((c.copy_from_slice-2.ensures.after ∙ c.to_be_bytes-2.ensures.value) i)
+    ((c.copy_from_slice-3.ensures.after ∙ c.to_be_bytes-3.ensures.value) i)

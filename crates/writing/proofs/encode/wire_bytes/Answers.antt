@@ -6,5 +6,5 @@ pub returns : goal.returns
 returns c =
     let name = c.args.name.now in
     let n : 1 + length name - 1 ≡ length name = omega arith in
-    (λ i. c.to-byte.ensures i ∷ (c.copy-from-slice.ensures.after i ++ drop (n i) (replicate 24 0)))
+    (λ i. c.to_byte.ensures i ∷ (c.copy_from_slice.ensures.after i ++ drop (n i) (replicate 24 0)))
     ∙ ap (λ t. 1 ∷ (name ++ t)) (drop_zeroes 24 (length name) c.requires)

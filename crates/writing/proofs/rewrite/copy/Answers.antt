@@ -22,7 +22,7 @@ last c n is =
     ∙ end_answer _ _ _ _ _ _ _ c.loop-command.invariant c.requires.checked c.requires.room (word c.in-Ok.command) n is (sym c.if-ends.ensures)
 
 pub loop-command-init : goal.loop-command-init
-loop-command-init c = copied_start c.args.recipe.now c.args.out.now _ _ _ (ap (λ r. r.now) c.new-reader.ensures.rest) c.new-reader.ensures.position c.new.ensures.value (bytes_from c.args.recipe.now c.type-inv.recipe)
+loop-command-init c = copied_start c.args.recipe.now c.args.out.now _ _ _ (ap (λ r. r.now) c.new-reader.ensures.rest) c.new-reader.ensures.position c.new.ensures.value (bytes_from c.args.recipe.now c.type_inv.recipe)
 
 pub unreachable-requires : goal.unreachable-requires
 unreachable-requires c =

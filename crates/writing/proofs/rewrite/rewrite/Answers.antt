@@ -4,13 +4,13 @@ use Rattle.writing.specs.Rewriting.{refusal_of, refused_first, space_answer, out
 use Rattle.writing.proofs.Placing.{placed_rules}
 use Rattle.writing.proofs.rewrite.rewrite.Goals as goal
 
-pub returns-in-err-check : goal.returns-in-err-check
-returns-in-err-check c =
-    let p = err_from_is_err_and c.from-residual.result c.from-residual.ensures.1 in
+pub returns-in_err-check : goal.returns-in_err-check
+returns-in_err-check c =
+    let p = err_from_is_err_and c.from_residual.result c.from_residual.ensures.1 in
     let bs = c.args.recipe.now in
     let out = c.args.out.now in
-    let e = c.in-err-check.field-0.0 in
-    let is : Some e ≡ refusal_of bs = c.in-err-check.ensures in
+    let e = c.in_err-check.field-0.0 in
+    let is : Some e ≡ refusal_of bs = c.in_err-check.ensures in
     rw (p.1, p.2) (record {
       value = ap (λ o. refused_first o (space_answer bs out)) is;
       output = ap (λ o. output_for (refused_first o (space_answer bs out)) bs out) is;

@@ -9,21 +9,21 @@ use Rattle.machines.proofs.Determinism.{question_proper, refused_facts, made_fac
 use Rattle.machines.specs.Courses.{machine_lawful, never_refuses}
 use Rattle.machines.proofs.machine.Machine.new.Goals as goal
 
-pub returns-in-err-check-machine : goal.returns-in-err-check-machine
-returns-in-err-check-machine c =
-    let p = err_from_is_err_and c.from-residual.result c.from-residual.ensures.1 in
-    let facts = refused_facts c.args.states c.args.rules.now c.in-err-check-machine.field-0.0 c.in-err-check-machine.ensures in
-    rw (p.1, p.2) (record { value = facts.0; proper = facts.1; refused = told_first c.args.states c.args.rules.now c.in-err-check-machine.field-0.0 c.in-err-check-machine.ensures; begins = tt; determined = tt; states = tt; accepts = tt })
+pub returns-in_err-check_machine : goal.returns-in_err-check_machine
+returns-in_err-check_machine c =
+    let p = err_from_is_err_and c.from_residual.result c.from_residual.ensures.1 in
+    let facts = refused_facts c.args.states c.args.rules.now c.in_err-check_machine.field-0.0 c.in_err-check_machine.ensures in
+    rw (p.1, p.2) (record { value = facts.0; proper = facts.1; refused = told_first c.args.states c.args.rules.now c.in_err-check_machine.field-0.0 c.in_err-check_machine.ensures; begins = tt; determined = tt; states = tt; accepts = tt })
 
 pub keep-requires : goal.keep-requires
-keep-requires c = (question_proper c.args.states c.args.rules.now (sym c.in-ok-check-machine.ensures)).few_rules
+keep-requires c = (question_proper c.args.states c.args.rules.now (sym c.in_ok-check_machine.ensures)).few_rules
 
-pub invariant-of-result : goal.invariant-of-result
-invariant-of-result c = (
-  (question_proper c.args.states c.args.rules.now (sym c.in-ok-check-machine.ensures)).few_rules,
+pub invariant_of-result : goal.invariant_of-result
+invariant_of-result c = (
+  (question_proper c.args.states c.args.rules.now (sym c.in_ok-check_machine.ensures)).few_rules,
   (
-    (question_proper c.args.states c.args.rules.now (sym c.in-ok-check-machine.ensures)).some_state,
-    (question_kept c.args.states (length c.args.rules.now) c.args.rules.now c.keep.result c.in-ok-check-machine.field-0 c.in-ok-check-machine.ensures c.keep.ensures, tt),
+    (question_proper c.args.states c.args.rules.now (sym c.in_ok-check_machine.ensures)).some_state,
+    (question_kept c.args.states (length c.args.rules.now) c.args.rules.now c.keep.result c.in_ok-check_machine.field-0 c.in_ok-check_machine.ensures c.keep.ensures, tt),
   ),
 )
 
@@ -31,7 +31,7 @@ pub returns : goal.returns
 returns c =
     let rules = c.args.rules.now in
     let kept = take (length rules) c.keep.result in
-    let facts = made_facts c.args.states rules c.in-ok-check-machine.field-0 c.in-ok-check-machine.ensures in
+    let facts = made_facts c.args.states rules c.in_ok-check_machine.field-0 c.in_ok-check_machine.ensures in
     record {
       value = ap (λ rs. Ok (c.args.states, rs, 0)) c.keep.ensures ∙ facts.0;
       proper = facts.1;

@@ -9,7 +9,7 @@ pub returns : goal.returns
 returns g c =
     let s = c.args.self.now in
     let t = c.advance.new.self in
-    let told = c.in-ok-outputs.ensures in
+    let told = c.in_ok-outputs.ensures in
     record {
       value = ap outputs told.value;
       course = outputs_after (refinement_moves s.stage (g.S.Staged.moves s.staged, g.S.Staged.anew s.staged, g.S.Staged.stage s.staged) (g.P.Part.course s.inside, g.P.Part.fresh s.inside)) (refinement_moves t.stage (g.S.Staged.moves t.staged, g.S.Staged.anew t.staged, g.S.Staged.stage t.staged) (g.P.Part.course t.inside, g.P.Part.fresh t.inside)) c.args.input.bits told.moves;

@@ -3,11 +3,11 @@ use Rattle.std.proofs.lemmas.Bool.{eq-eqb, ne_eqb}
 use Rattle.rules.proofs.Matching.{accord_facts}
 use Rattle.rules.proofs.rule.Rule.accords.Goals as goal
 
-pub returns-then-not-can-fire-with : goal.returns-then-not-can-fire-with
-returns-then-not-can-fire-with c =
+pub returns-then-not-can_fire_with : goal.returns-then-not-can_fire_with
+returns-then-not-can_fire_with c =
     let a = c.args.self.now in
     let b = c.args.other.now in
-    let facts = accord_facts a b _ (ap not c.if-not-can-fire-with.true ∙ ap (λ t. not t || (eqb a.to b.to && eqb a.emits.bits b.emits.bits)) c.if-not-can-fire-with.ensures) in
+    let facts = accord_facts a b _ (ap not c.if-not-can_fire_with.true ∙ ap (λ t. not t || (eqb a.to b.to && eqb a.emits.bits b.emits.bits)) c.if-not-can_fire_with.ensures) in
     record { value = facts.0; law = facts.1 }
 
 pub returns-then-self-other : goal.returns-then-self-other

@@ -4,14 +4,14 @@ use Rattle.settings.specs.Tried.{size}
 use Rattle.settings.proofs.Sizes.{size_ones}
 use Rattle.settings.proofs.hidden.Hidden.new.Goals as goal
 
-pub returns-then-set-gt-MAX-HIDDEN : goal.returns-then-set-gt-MAX-HIDDEN
-returns-then-set-gt-MAX-HIDDEN c =
+pub returns-then-set-gt-MAX_HIDDEN : goal.returns-then-set-gt-MAX_HIDDEN
+returns-then-set-gt-MAX_HIDDEN c =
     let e = size_ones c.args.set.bits (search rules) in
     let more : 12 < size c.args.set.bits = omega arith in
     sym (cond-false _ _ _ (lt-leb _ _ more))
 
-pub invariant-of-result : goal.invariant-of-result
-invariant-of-result c =
+pub invariant_of-result : goal.invariant_of-result
+invariant_of-result c =
     let e = size_ones c.args.set.bits (search rules) in
     let few : size c.args.set.bits ≤ 12 = omega arith in
     (few, tt)

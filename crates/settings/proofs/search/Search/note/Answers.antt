@@ -11,8 +11,8 @@ take-self-requires c =
     let h = s.hidden.set.bits in
     fits h s.setting.bits s.found.count (search rules) s.hidden.few s.within (going_few s.over h s.setting.bits s.found.count c.if-self.false s.few)
 
-pub invariant-of-self : goal.invariant-of-self
-invariant-of-self c =
+pub invariant_of-self : goal.invariant_of-self
+invariant_of-self c =
     let s = c.args.self.now in
     let h = s.hidden.set.bits in
     let n = s.found.count in (
@@ -32,11 +32,11 @@ returns-then-last c =
       idle = λ e. absurd (both_ways _ c.if-self.false e);
     }
 
-pub invariant-of-self-2 : goal.invariant-of-self-2
-invariant-of-self-2 c =
+pub invariant_of-self-2 : goal.invariant_of-self-2
+invariant_of-self-2 c =
     let s = c.args.self.now in
     let h = s.hidden.set.bits in
     let n = s.found.count in (
-      c.next-setting-self.ensures.within,
-      (still_few s.over h c.next-setting-self.result.bits c.take-self.result.count c.if-self.false (one_more_few (tried h s.setting.bits) (tried h c.next-setting-self.result.bits) s.setting.bits c.take-self.result.count n c.next-setting-self.ensures.tried c.take-self.ensures.count (going_few s.over h s.setting.bits n c.if-self.false s.few)), tt),
+      c.next_setting-self.ensures.within,
+      (still_few s.over h c.next_setting-self.result.bits c.take-self.result.count c.if-self.false (one_more_few (tried h s.setting.bits) (tried h c.next_setting-self.result.bits) s.setting.bits c.take-self.result.count n c.next_setting-self.ensures.tried c.take-self.ensures.count (going_few s.over h s.setting.bits n c.if-self.false s.few)), tt),
     )

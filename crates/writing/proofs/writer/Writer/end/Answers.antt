@@ -9,7 +9,7 @@ returns-in-Ok c =
     let put = c.in-Ok.ensures in
     let at = c.args.self.position in
     let out = c.args.out.now in
-    let is = c.end-bytes.ensures in
+    let is = c.end_bytes.ensures in
     let v = ap (answered finished c.args.self) (put.value ∙ ap (λ b. put_answer at b out) is) in
     let o = put.output ∙ ap (λ b. put_output at b out) is in
     record { value = v; output = o; law = ended_by c.args.self at out _ _ v o }

@@ -6,5 +6,5 @@ use Rattle.writing.proofs.writer.Writer.par.Goals as goal
 
 pub returns : goal.returns
 returns c =
-    let t = told between (λ s. s.position) (λ _. refl) c.args.self par c.args.self.position _ c.args.out.now _ _ c.write.ensures.value c.write.ensures.output c.par-bytes.ensures refl tt refl in
+    let t = told between (λ s. s.position) (λ _. refl) c.args.self par c.args.self.position _ c.args.out.now _ _ c.write.ensures.value c.write.ensures.output c.par_bytes.ensures refl tt refl in
     record { value = t.value; output = t.output; law = t.law }

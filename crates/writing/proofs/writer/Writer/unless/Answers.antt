@@ -6,5 +6,5 @@ use Rattle.writing.proofs.writer.Writer.unless.Goals as goal
 
 pub returns : goal.returns
 returns c =
-    let t = told between (λ s. s.position) (λ _. refl) c.args.self (unless c.args.wire) c.args.self.position _ c.args.out.now _ _ c.write.ensures.value c.write.ensures.output c.unless-bytes.ensures refl (search rules) refl in
+    let t = told between (λ s. s.position) (λ _. refl) c.args.self (unless c.args.wire) c.args.self.position _ c.args.out.now _ _ c.write.ensures.value c.write.ensures.output c.unless_bytes.ensures refl (search rules) refl in
     record { value = t.value; output = t.output; law = t.law }
