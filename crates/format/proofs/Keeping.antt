@@ -114,7 +114,7 @@ module _ (bs : List ℕ) (place : Address) (rest : Bor (List ℕ)) (position : �
   pub done : is_end (word c) ≡ true → read_all today bs ≡ record { words = map word (cs ++ c ∷ []); ending = None }
   done e = walk_done bs (map word cs) rest.now position so.walked (word c) n is e ∙ ap (λ t. record { words = t; ending = None }) (sym (words_more cs c))
 
-  module _ (named : Lies (behind rest.ptr 1) c) where
+  module _ (named : Lies (behind rest.ref_ptr 1) c) where
     pub names_more : NamesLie place (cs ++ c ∷ [])
     names_more = lie_more place cs c so.names (subst (λ p. Lies (behind p 1) c) (so.from ∙ ap (behind place) so.walked.at) named)
 

@@ -34,7 +34,7 @@ behind place n = (place.0, n + place.1)
 
 -- A command whose operands begin at an address: the name of a WIRE is the bytes that stand there, and no copy of them.
 abbrev pub Lies : Address → Command → Type 0
-Lies place (Wire name) = name.ptr ≡ place
+Lies place (Wire name) = name.ref_ptr ≡ place
 Lies place (Machine states) = Unit {0}
 Lies place (Rule r) = Unit {0}
 Lies place Par = Unit {0}

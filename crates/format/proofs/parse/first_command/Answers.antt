@@ -14,7 +14,7 @@ read c =
     let bs = c.args.bytes.now in
     let some : 0 < length bs = search rules in
     let enough : size today c.in_ok-opcode.opcode ≤ length (between 1 (length bs) bs) = search rules in
-    first_operands today bs some c.in_ok-opcode.opcode (sym c.from_byte.ensures ∙ c.in_ok-opcode.ensures.ok-part) enough
+    first_operands today bs some c.in_ok-opcode.opcode (sym c.from_byte.ensures ∙ c.in_ok-opcode.ensures.ok_part) enough
 
 pub returns-in_err-command : goal.returns-in_err-command
 returns-in_err-command c =

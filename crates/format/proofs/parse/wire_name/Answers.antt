@@ -4,7 +4,7 @@ use Rattle.format.specs.Commands.{wire}
 use Rattle.format.specs.Reading.{got}
 use Rattle.format.proofs.Spelling.{name_read_is, holds_is}
 use Rattle.format.proofs.parse.wire_name.Goals as goal
-use Rattle.format.proofs.parse.wire_name.Goals.{else-is-spelled-via-then-is-spelled+else-is-all-zero, else-is-spelled-via-else-is-spelled}
+use Rattle.format.proofs.parse.wire_name.Goals.{else-is_spelled-via-then-is_spelled+else-is_all_zero, else-is_spelled-via-else-is_spelled}
 
 pub returns-then-is_all_zero : goal.returns-then-is_all_zero
 returns-then-is_all_zero c =
@@ -14,7 +14,7 @@ returns-then-is_all_zero c =
     let le : n ≤ 24 = omega (arith, c.name_length-length.ensures.within, length-take 24 bs) in
     record {
       value = ap (λ t. got (wire t) 25) (name_read_is bs 24 n is le) ∙ sym (cond-true _ _ _ (holds_is bs 24 n is le ∙ and_from _ _ (sym c.if-is_spelled.ensures) (sym c.if-is_all_zero.ensures)));
-      place = ap (λ (o : ℕ). (c.args.operands.ptr.0, o)) (zero-add c.args.operands.ptr.1);
+      place = ap (λ (o : ℕ). (c.args.operands.ref_ptr.0, o)) (zero-add c.args.operands.ref_ptr.1);
     }
 
 pub returns-else-is_spelled : goal.returns-else-is_spelled

@@ -7,7 +7,7 @@ use Rattle.format.specs.Values.{word, taken}
 use Rattle.format.proofs.Readings.{whole}
 use Rattle.format.proofs.Keeping.{got_from, refused_from, bytes_from, some, enough, few, count_start, count_stopped, count_done, count_more}
 use Rattle.format.proofs.recipe.count_commands.Goals as goal
-use Rattle.format.proofs.recipe.count_commands.Goals.{After-new-reader, In-ok-command}
+use Rattle.format.proofs.recipe.count_commands.Goals.{After-new-reader, In_ok-command}
 
 law : (c : After-new-reader) → Whole today c.args.recipe.now (read_all today c.args.recipe.now)
 law c = whole today c.args.recipe.now (bytes_from c.args.recipe.now c.type_inv.recipe)

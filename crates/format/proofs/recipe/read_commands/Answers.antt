@@ -5,7 +5,7 @@ use Rattle.format.specs.Reading.{got, first_read}
 use Rattle.format.specs.Values.{word, behind, NamesLie, taken}
 use Rattle.format.proofs.Keeping.{Sofar, got_from, refused_from, bytes_from, start, some, enough, one_more, names_more, done, stopped, counted_ends, counted_refused}
 use Rattle.format.proofs.recipe.read_commands.Goals as goal
-use Rattle.format.proofs.recipe.read_commands.Goals.{In-ok-command}
+use Rattle.format.proofs.recipe.read_commands.Goals.{In_ok-command}
 
 -- the command that was read
 here : (c : In_ok-command) → (n : ℕ) × (first_read today c.loop-commands.reader.rest.now ≡ got (word c.in_ok-command.command) n)
@@ -46,11 +46,11 @@ returns-then-ends c =
     let here-is = here (goal.at.returns-then-ends c).In_ok-command in
     let command = c.in_ok-command.command in
     let items = c.in_ok-push.ensures.items in
-    let at = ap (λ r. r.ptr) c.new-reader.ensures.rest in
+    let at = ap (λ r. r.ref_ptr) c.new-reader.ensures.rest in
     record {
       value = done _ _ _ _ _ c.loop-commands.invariant command here-is.0 here-is.1 (sym c.if-ends.ensures) ∙ ap (λ cs. record { words = map word cs; ending = None }) (sym items);
       law = c.count_commands.ensures.law;
-      names = subst (λ p. NamesLie p (vec_items c.push.new.self)) at (subst (NamesLie c.new-reader.result.rest.ptr) (sym items) (names_more _ _ _ _ _ c.loop-commands.invariant command here-is.0 here-is.1 c.in_ok-command.ensures.name));
+      names = subst (λ p. NamesLie p (vec_items c.push.new.self)) at (subst (NamesLie c.new-reader.result.rest.ref_ptr) (sym items) (names_more _ _ _ _ _ c.loop-commands.invariant command here-is.0 here-is.1 c.in_ok-command.ensures.name));
     }
 
 pub loop-commands-smaller : goal.loop-commands-smaller
@@ -69,8 +69,8 @@ loop-commands-preserved c =
     let command = c.in_ok-command.command in
     let reader = c.loop-commands.reader in
     let told = c.in_ok-command.ensures in
-    subst (Sofar c.args.recipe.now c.new-reader.result.rest.ptr c.read.new.self.rest c.read.new.self.position) (sym c.in_ok-push.ensures.items)
+    subst (Sofar c.args.recipe.now c.new-reader.result.rest.ref_ptr c.read.new.self.rest c.read.new.self.position) (sym c.in_ok-push.ensures.items)
     (one_more _ _ _ _ _ c.loop-commands.invariant command here-is.0 here-is.1 told.name _ _ (sym c.if-ends.ensures)
     (told.rest ∙ ap (λ r. drop (taken r) reader.rest.now) here-is.1)
-    (told.place ∙ ap (λ r. behind reader.rest.ptr (taken r)) here-is.1)
+    (told.place ∙ ap (λ r. behind reader.rest.ref_ptr (taken r)) here-is.1)
     (told.position ∙ ap (λ r. reader.position + taken r) here-is.1))

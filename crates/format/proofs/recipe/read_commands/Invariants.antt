@@ -3,7 +3,7 @@ use Rattle.format.proofs.Keeping.{Sofar}
 use Rattle.format.proofs.recipe.read_commands.Given as goal
 
 abbrev pub invariant-loop-commands : goal.invariant-loop-commands
-invariant-loop-commands l = Sofar l.recipe l.initial.reader.rest.ptr l.reader.rest l.reader.position (vec_items l.commands)
+invariant-loop-commands l = Sofar l.recipe l.initial.reader.rest.ref_ptr l.reader.rest l.reader.position (vec_items l.commands)
 
 abbrev pub decreases-loop-commands : goal.decreases-loop-commands
 decreases-loop-commands l = length l.reader.rest.now

@@ -6,7 +6,7 @@ use Rattle.reports.specs.Lines.{wire_list_text, reading_report}
 use Rattle.reports.specs.Names.{shown, Spelled, name_refs}
 use Rattle.reports.proofs.Declared.{all_names, spelled_refs, all_proper}
 use Rattle.reports.proofs.wires.wire_list.Goals as goal
-use Rattle.reports.proofs.wires.wire_list.Goals.{In-ok-names}
+use Rattle.reports.proofs.wires.wire_list.Goals.{In_ok-names}
 
 -- the names that are listed are those of the commands that were read
 names-are : (c : In_ok-names) → vec_items c.in_ok-names.names ≡ name_refs (vec_items c.in-Ok.commands)

@@ -3,7 +3,7 @@ use Rattle.std.proofs.lemmas.List.{take_all}
 use Rattle.reports.specs.Names.{name_ref, name_refs}
 use Rattle.reports.proofs.Declared.{refs_more, other_name}
 use Rattle.reports.proofs.wires.wire_names.Goals as goal
-use Rattle.reports.proofs.wires.wire_names.Goals.{in-Wire+in-ok-push, in-default}
+use Rattle.reports.proofs.wires.wire_names.Goals.{in-Wire+in_ok-push, in_default}
 
 pub loop-command-preserved : goal.loop-command-preserved
 loop-command-preserved c =

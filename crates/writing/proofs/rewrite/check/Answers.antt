@@ -7,7 +7,7 @@ use Rattle.format.specs.declared.refusal.Refusal.TheVariants.{MisplacedRule}
 use Rattle.format.proofs.Keeping.{got_from, refused_from, bytes_from}
 use Rattle.writing.proofs.Checking.{clear_start, clear_refused, clear_some, clear_within, clear_misplaced, clear_end, clear_more}
 use Rattle.writing.proofs.rewrite.check.Goals as goal
-use Rattle.writing.proofs.rewrite.check.Goals.{In-ok-command}
+use Rattle.writing.proofs.rewrite.check.Goals.{In_ok-command}
 
 -- the command that was read
 here : (c : In_ok-command) → (n : ℕ) × (first_read today c.loop-command.reader.rest.now ≡ got (word c.in_ok-command.command) n)

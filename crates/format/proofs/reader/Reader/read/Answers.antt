@@ -14,6 +14,6 @@ returns-in-Ok c =
       value = ap (answer at) is;
       position = ap (λ r. at + taken r) is;
       rest = take_rest bs c.in-Ok.used ∙ ap (λ r. drop (taken r) bs) is;
-      place = ap (λ r. behind c.args.self.now.rest.ptr (taken r)) is;
+      place = ap (λ r. behind c.args.self.now.rest.ref_ptr (taken r)) is;
       name = c.in-Ok.ensures.place;
     }
