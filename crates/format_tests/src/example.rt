@@ -45,6 +45,6 @@ fn the_documents_recipe(rt: HostRuntime) -> Result<(), Fail> {
     let mut out = [0u8; 185];
     assert_eq!(rt; write_line(&mut out)?, 185);
     assert_eq!(rt; outcome(&rt, &out), Ok(11));
-    assert_eq!(rt; &out[125..130], b"\x02\x01\x03\0\0");
+    assert_eq!(rt; &out[125..130], b"\x02\x01\x03\0\0".as_slice());
     Ok(())
 }

@@ -10,4 +10,4 @@ mod names;
 #[cfg(test)]
 mod reading;
 #[cfg(test)]
-mod writing;
+mod written;

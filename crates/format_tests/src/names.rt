@@ -1,9 +1,10 @@
 // Names: which fields of 24 bytes hold one.
 use crate::reading::outcome;
+use std::process::Abort;
 use std::test::*;
 
 // A recipe of a WIRE with this field, and END.
-fn with_field(rt: &HostRuntime, field: &[u8]) -> Result<Result<usize, (u8, usize)>, Fail> {
+fn with_field(rt: &impl AllocGlobal, field: &[u8]) -> Result<Result<usize, (u8, usize)>, Fail> {
     let mut recipe = Vec::new(rt.alloc());
     recipe.push(1)?;
     recipe.extend_from_slice(field)?;
@@ -11,13 +12,13 @@ fn with_field(rt: &HostRuntime, field: &[u8]) -> Result<Result<usize, (u8, usize
     Ok(outcome(rt, recipe.as_slice()))
 }
 
-fn good(rt: &HostRuntime, field: &[u8]) -> Result<(), Fail> {
-    assert_eq!(with_field(rt, field)?, Ok(2));
+fn good(rt: &(impl Abort + AllocGlobal), field: &[u8]) -> Result<(), Fail> {
+    assert_eq!(rt; with_field(rt, field)?, Ok(2));
     Ok(())
 }
 
-fn bad(rt: &HostRuntime, field: &[u8]) -> Result<(), Fail> {
-    assert_eq!(with_field(rt, field)?, Err((5, 0)));
+fn bad(rt: &(impl Abort + AllocGlobal), field: &[u8]) -> Result<(), Fail> {
+    assert_eq!(rt; with_field(rt, field)?, Err((5, 0)));
     Ok(())
 }
 

@@ -1,10 +1,11 @@
 // Reading: each refusal at its position, at every boundary of the operands.
 use format::recipe::read_commands;
 use format::{Command, Reader};
+use std::process::Abort;
 use std::test::*;
 
 // What reading a whole recipe answers: how many commands it has, or the refusal's number and position.
-pub(crate) fn outcome(rt: &HostRuntime, recipe: &[u8]) -> Result<usize, (u8, usize)> {
+pub(crate) fn outcome(rt: &impl AllocGlobal, recipe: &[u8]) -> Result<usize, (u8, usize)> {
     match read_commands(rt.alloc(), recipe) {
         Ok(commands) => Ok(commands.len()),
         Err(error) => Err((error.refusal.number(), error.position)),
@@ -47,13 +48,13 @@ fn every_first_byte(rt: HostRuntime) -> Result<(), Fail> {
 }
 
 // A command of `length` bytes: cut short at every place, whole with nothing behind it, and whole with END behind it.
-fn boundaries(rt: &HostRuntime, recipe: &[u8], length: usize) -> Result<(), Fail> {
-    assert!(length > 0 && length < recipe.len());
+fn boundaries(rt: &(impl Abort + AllocGlobal), recipe: &[u8], length: usize) -> Result<(), Fail> {
+    assert!(rt; length > 0 && length < recipe.len());
     for cut in 1..length {
-        assert_eq!(outcome(rt, &recipe[0..cut]), Err((3, 0)));
+        assert_eq!(rt; outcome(rt, &recipe[0..cut]), Err((3, 0)));
     }
-    assert_eq!(outcome(rt, &recipe[0..length]), Err((1, length)));
-    assert_eq!(outcome(rt, recipe), Ok(2));
+    assert_eq!(rt; outcome(rt, &recipe[0..length]), Err((1, length)));
+    assert_eq!(rt; outcome(rt, recipe), Ok(2));
     Ok(())
 }
 

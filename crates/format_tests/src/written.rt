@@ -57,7 +57,7 @@ fn a_recipe_byte_by_byte(rt: HostRuntime) -> Result<(), Fail> {
     assert_eq!(rt; finished.length(), 69);
     assert_eq!(rt;
         &out[0..],
-        b"\x01AB\0\0\0\0\0\0\0\0\0\0\0\0\0\0\0\0\0\0\0\0\0\0\x02\x03\x03\x01\x02\x11\x12\x13\x14\x15\x16\x17\x18\x21\x22\x23\x24\x25\x26\x27\x28\x31\x32\x33\x34\x35\x36\x37\x38\x04\x05\x80\0\0\0\0\0\0\x01\x06\x3f\x07\x05\x08\xee\xee\xee\xee\xee"
+        b"\x01AB\0\0\0\0\0\0\0\0\0\0\0\0\0\0\0\0\0\0\0\0\0\0\x02\x03\x03\x01\x02\x11\x12\x13\x14\x15\x16\x17\x18\x21\x22\x23\x24\x25\x26\x27\x28\x31\x32\x33\x34\x35\x36\x37\x38\x04\x05\x80\0\0\0\0\0\0\x01\x06\x3f\x07\x05\x08\xee\xee\xee\xee\xee".as_slice()
     );
     Ok(())
 }
@@ -140,7 +140,7 @@ fn a_refused_write_changes_nothing(rt: HostRuntime) -> Result<(), Fail> {
         refused(Writer::new().wire(&mut out, b"A")),
         Some((Refusal::NoSpace, 0))
     );
-    assert_eq!(rt; &out[0..], b"\x04\xee\xee");
+    assert_eq!(rt; &out[0..], b"\x04\xee\xee".as_slice());
     Ok(())
 }
 
@@ -196,6 +196,6 @@ fn a_rule_elsewhere_is_refused(rt: HostRuntime) -> Result<(), Fail> {
         ),
         Err((9, 11))
     );
-    assert_eq!(rt; &out[0..], b"\xee\xee\xee\xee");
+    assert_eq!(rt; &out[0..], b"\xee\xee\xee\xee".as_slice());
     Ok(())
 }
