@@ -6,7 +6,7 @@ use Rattle.machines.proofs.reacting.rules_read.Goals as goal
 
 pub loop-rule-preserved : goal.loop-rule-preserved
 loop-rule-preserved c =
-    ap (λ n. union n (united rule_reads (drop (c.loop-rule.rule-index + 1) c.args.rules.now))) (c.union_wires.ensures.value ∙ ap (union c.loop-rule.wires.bits) c.union.ensures.value)
+    ap (λ n. union n (united rule_reads (drop (c.loop-rule.rule-index + 1) c.args.rules.now))) (c.union-wires.ensures.value ∙ ap (union c.loop-rule.wires.bits) c.union.ensures.value)
     ∙ united_more rule_reads c.args.rules.now c.loop-rule.wires.bits c.loop-rule.rule-index c.loop-rule.invariant _ c.loop-rule-test.true
 
 pub returns : goal.returns

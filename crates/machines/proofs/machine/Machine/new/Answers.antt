@@ -19,13 +19,13 @@ pub keep-requires : goal.keep-requires
 keep-requires c = (question_proper c.args.states c.args.rules.now (sym c.in_ok-check_machine.ensures)).few_rules
 
 pub invariant_of-result : goal.invariant_of-result
-invariant_of-result c = (
-  (question_proper c.args.states c.args.rules.now (sym c.in_ok-check_machine.ensures)).few_rules,
-  (
-    (question_proper c.args.states c.args.rules.now (sym c.in_ok-check_machine.ensures)).some_state,
-    (question_kept c.args.states (length c.args.rules.now) c.args.rules.now c.keep.result c.in_ok-check_machine.field-0 c.in_ok-check_machine.ensures c.keep.ensures, tt),
-  ),
-)
+invariant_of-result c =
+    let proper = question_proper c.args.states c.args.rules.now (sym c.in_ok-check_machine.ensures) in
+    record {
+      fits = proper.few_rules;
+      exists = proper.some_state;
+      proper = question_kept c.args.states (length c.args.rules.now) c.args.rules.now c.keep.result c.in_ok-check_machine.field-0 c.in_ok-check_machine.ensures c.keep.ensures;
+    }
 
 pub returns : goal.returns
 returns c =
