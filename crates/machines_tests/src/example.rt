@@ -1,5 +1,5 @@
 // Machines and wires that the examples share.
-use machines::{Machine, MachineRefusal};
+use machines::Machine;
 use parts::Fault;
 use rules::Rule;
 use signals::WireSet;

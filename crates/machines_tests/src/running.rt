@@ -2,7 +2,6 @@
 use crate::example::{A, B, BEFORE, CLOSED, NONE, bit};
 use gates::Gate;
 use parts::{Fault, RunReport, Staged, run};
-use signals::WireSet;
 use std::test::Fail;
 
 fn whole(ticks: usize) -> RunReport {
