@@ -79,7 +79,7 @@ module _ (p : Plan) (fresh : Course ℕ) (is-fresh : Same fresh (plan_course p))
     anew = (still part_reply (part_left fresh) reply left_by At at_gives at_kept fresh (begin p) at_begin earlier r.sets).anew;
   }
 
-  planned : (c : Course ℕ) (earlier calls : List Call) → All Put calls → Reached p c earlier → AsPlanned p earlier calls (part_replies fresh c calls) (part_after fresh c calls)
+  pub planned : (c : Course ℕ) (earlier calls : List Call) → All Put calls → Reached p c earlier → AsPlanned p earlier calls (part_replies fresh c calls) (part_after fresh c calls)
   planned c earlier calls w r =
       let a = at_earlier c earlier r in
       record {
@@ -113,6 +113,10 @@ promise p fresh f c earlier calls w r =
       reads = λ x o h e. one_reading worked t x o (sym (now x h) ∙ e);
       exchanged = λ q s. planned q fresh (λ xs x u h. f xs x u h ∙ alike s xs x u h) c earlier calls w (alike_reached p q s c earlier r);
     }
+
+-- one more call keeps what the promise asks for
+pub reached_by : (p : Plan) (fresh : Course ℕ) → Same fresh (plan_course p) → (c : Course ℕ) (earlier : List Call) (k : Call) → Put k → Reached p c earlier → Reached p (part_left fresh c k) (earlier ++ k ∷ [])
+reached_by p fresh f c earlier k h r = (promise p fresh f c earlier (k ∷ []) (h, tt) r).reached
 
 -- One call on a part, whose reply r and course d behind it are those of the part's courses.
 promised : (p : Plan) (fresh c d : Course ℕ) (k : Call) (r : Reply) → fresh ≡ plan_course p → Put k → r ≡ part_reply c k → d ≡ part_left fresh c k → Promised p c (k ∷ []) (r ∷ []) d

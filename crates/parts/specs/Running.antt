@@ -9,7 +9,7 @@ module _ {S A : Type 0} (answer : S → ℕ → Answer A) (next : S → ℕ → 
   pub run_ok : (s : S) (x : ℕ) (a : A) → answer s x ≡ Ok a → (ys : List ℕ) (y : ℕ) → run_of answer next s (x ∷ ys) y ≡ run_of answer next (next s x) ys y
   run_ok s x a e ys y = ap (λ r. run_of answer next (run_on answer next r s x) ys y) e
 
-  run_err : (s : S) (x : ℕ) (f : Fault) → answer s x ≡ Err f → (ys : List ℕ) (y : ℕ) → run_of answer next s (x ∷ ys) y ≡ run_of answer next s ys y
+  pub run_err : (s : S) (x : ℕ) (f : Fault) → answer s x ≡ Err f → (ys : List ℕ) (y : ℕ) → run_of answer next s (x ∷ ys) y ≡ run_of answer next s ys y
   run_err s x f e ys y = ap (λ r. run_of answer next (run_on answer next r s x) ys y) e
 
   -- inputs after a refused one are answered as if it had not been put

@@ -36,7 +36,7 @@ append_in a [] ys i = ⊎_elim (λ z. absurd z) (λ j. j) i
 append_in a (x ∷ xs) ys i = ⊎_elim (⊎_elim inl (λ l. inr (append_in a xs ys (inl l)))) (λ j. inr (append_in a xs ys (inr j))) i
 
 -- ---- lists of numbers in rising order
-abbrev Rising : ℕ → List ℕ → Type 0
+abbrev pub Rising : ℕ → List ℕ → Type 0
 Rising b [] = Unit {0}
 Rising b (x ∷ xs) = (b ≤ x) × Rising (suc x) xs
 
@@ -53,7 +53,7 @@ kept_rising test b [] r = tt
 kept_rising test b (x ∷ xs) r =
     cond_both (test x) _ _ (Rising b) (λ _. (r.0, kept_rising test (suc x) xs r.1)) (λ _. rising_from b (suc x) _ (omega (arith, r.0)) (kept_rising test (suc x) xs r.1))
 
-settings_rising : (g : ℕ) → Rising 0 (settings g)
+pub settings_rising : (g : ℕ) → Rising 0 (settings g)
 settings_rising g = kept_rising (λ s. subset s g) 0 (range_with_len 0 (suc g)) (counting_rising 0 (suc g))
 
 in_counting : (a n s : ℕ) → a ≤ s → s < a + n → In s (range_with_len a n)
@@ -76,7 +76,7 @@ kept_in test s (x ∷ xs) i =
     (λ _. kept_in test s xs)
     i
 
-in_settings : (g s : ℕ) → subset s g ≡ true → In s (settings g)
+pub in_settings : (g s : ℕ) → subset s g ≡ true → In s (settings g)
 in_settings g s h =
     let le : s ≤ g = omega (arith, eqb-true (bit_and s g) s h, and_le_r s g) in
     in_kept (λ t. subset t g) s (range_with_len 0 (suc g)) (in_counting 0 (suc g) s (omega arith) (omega arith)) h
