@@ -1,6 +1,6 @@
 -- Whole recipes: what reading to the end comes to. Assumes nothing.
 use Rattle.std.proofs.Common.{◌≡◌, ℕ, zero, suc, ◌+◌, ◌-◌, ◌<◌, ◌≤◌, Bool, true, false, cond, eqb, leb, List, [], ◌∷◌, ◌++◌, length, take, drop, Some, None, Option, sym, refl, ap, ◌∙◌, subst, append_assoc, append-nil, suc-add, zero-add, sub-one, arith}
-use Rattle.std.specs.List.{AllByRecursion as All}
+use Rattle.std.specs.List.{AllByRecursion}
 use Rattle.std.proofs.lemmas.Bool.{cond-true, cond-false, le-leb, leb-true, cond_both, true≢false}
 use Rattle.std.proofs.ByRecursion.{All-drop}
 use Rattle.std.proofs.lemmas.List.{flat_map_more, length-append, length-take-le, length-drop, take_at, drop_at}
@@ -80,7 +80,7 @@ module _ (form : Form) where
       ∙ ap (λ x. before w (read_all form x)) (drop_at (encode form w) t (length (encode form w)) refl)
       ∙ before_more w (read_all form t) h
 
-  pub read_among : (ws : List Word) (t : List ℕ) → All (Proper form) ws → All NotEnd ws → read_all form (encode_all form ws ++ t) ≡ followed ws (read_all form t)
+  pub read_among : (ws : List Word) (t : List ℕ) → AllByRecursion (Proper form) ws → AllByRecursion NotEnd ws → read_all form (encode_all form ws ++ t) ≡ followed ws (read_all form t)
   read_among [] t p h = refl
   read_among (w ∷ ws) t p h =
       ap (read_all form) (append_assoc (encode form w) (encode_all form ws) t)
@@ -90,7 +90,7 @@ module _ (form : Form) where
   encode_more : (ws : List Word) (w : Word) → encode_all form (ws ++ w ∷ []) ≡ encode_all form ws ++ encode form w
   encode_more ws w = sym (flat_map_more (encode form) [] ws w)
 
-  pub read_whole : (ws : List Word) → All (Proper form) ws → All NotEnd ws → form.has (opcode end) ≡ true → read_all form (encode_all form (ws ++ end ∷ [])) ≡ record { words = ws ++ end ∷ []; ending = None }
+  pub read_whole : (ws : List Word) → AllByRecursion (Proper form) ws → AllByRecursion NotEnd ws → form.has (opcode end) ≡ true → read_all form (encode_all form (ws ++ end ∷ [])) ≡ record { words = ws ++ end ∷ []; ending = None }
   read_whole ws p h has =
       let last : read_all form (encode form end) ≡ record { words = end ∷ []; ending = None } = read_step form (encode form end) end 1 (first_encoded form end [] (has, tt) (λ _. refl)) (omega arith) in
       ap (read_all form) (encode_more ws end) ∙ read_among ws (encode form end) p h ∙ ap (followed ws) last

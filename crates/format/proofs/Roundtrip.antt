@@ -1,6 +1,6 @@
 -- One command: reading what was encoded, and encoding what was read. Assumes nothing.
 use Rattle.std.proofs.Common.{◌≡◌, ℕ, suc, ◌+◌, ◌^◌, ◌<◌, ◌≤◌, Bool, true, false, cond, eqb, leb, List, [], ◌∷◌, ◌++◌, length, get_or, take, drop, Some, None, Option, sym, refl, ap, ◌∙◌, subst, append_assoc, arith}
-use Rattle.std.specs.List.{AllByRecursion as All}
+use Rattle.std.specs.List.{AllByRecursion}
 use Rattle.std.proofs.lemmas.Bool.{and_parts, cond-true, eqb-true, le-leb, leb-true, cond_both, true≢false}
 use Rattle.std.proofs.ByRecursion.{All-get_or, All-take, All-drop}
 use Rattle.std.proofs.lemmas.List.{length-append, length-take-le, length-drop, take_at, drop_more, take-append-drop, drop-drop}
@@ -93,7 +93,7 @@ Sound form bs (got w n) = Taken form bs w n
 Sound form bs (refused r) = Unit {0}
 
 abbrev Bytes : List ℕ → Type 0
-Bytes = All (λ b. b < 256)
+Bytes = AllByRecursion (λ b. b < 256)
 
 set_back : (i : ℕ) (bs : List ℕ) → Bytes bs → i + 8 ≤ length bs → (set_at i bs < 2 ^ 64) × (eight (set_at i bs) ≡ take 8 (drop i bs))
 set_back i bs s l =

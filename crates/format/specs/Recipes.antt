@@ -1,6 +1,6 @@
 -- What reading a whole recipe comes to, in the words of its commands. Assumes nothing: these are definitions.
 use Rattle.std.specs.Prelude.{◌≡◌, ℕ, suc, ◌+◌, ◌<◌, Bool, true, false, List, [], ◌∷◌, ◌++◌, length, take, drop, Some, None, Option}
-use Rattle.std.specs.List.{AllByRecursion as All}
+use Rattle.std.specs.List.{AllByRecursion}
 use Rattle.format.specs.Commands.{Form, Word, end, opcode, size, command_of, encode_all, extent, Proper}
 use Rattle.format.specs.Reading.{refused, first_read, is_end, Reading, read_all}
 use Rattle.format.specs.declared.command.Opcode.{Opcode}
@@ -8,7 +8,7 @@ use Rattle.format.specs.declared.refusal.Refusal.{Refusal}
 use Rattle.format.specs.declared.refusal.Refusal.TheVariants.{EndOfBytes, UnknownCommand, MissingOperands, MalformedName, MisplacedRule, BytesAfterEnd, TooLong, NoSpace, OutOfMemory}
 
 abbrev pub Bytes : List ℕ → Type 0
-Bytes = All (λ b. b < 256)
+Bytes = AllByRecursion (λ b. b < 256)
 
 abbrev pub NotEnd : Word → Type 0
 NotEnd w = is_end w ≡ false
@@ -18,16 +18,16 @@ pub record Complete (form : Form) (bs : List ℕ) (ws : List Word) : Type 0 wher
   pub whole : encode_all form ws ≡ bs
   pub front : List Word
   pub last : ws ≡ front ++ end ∷ []
-  pub once : All NotEnd front
-  pub proper : All (Proper form) ws
+  pub once : AllByRecursion NotEnd front
+  pub proper : AllByRecursion (Proper form) ws
 
 -- The bytes begin with the encodings of the commands, among which END is not, and the command behind them is refused.
 pub record Stopped (form : Form) (bs : List ℕ) (ws : List Word) (r : Refusal) : Type 0 where
   pub behind : List ℕ
   pub split : encode_all form ws ++ behind ≡ bs
   pub asked : first_read form behind ≡ refused r
-  pub none : All NotEnd ws
-  pub proper : All (Proper form) ws
+  pub none : AllByRecursion NotEnd ws
+  pub proper : AllByRecursion (Proper form) ws
 
 abbrev pub Ended : Form → List ℕ → List Word → Option Refusal → Type 0
 Ended form bs ws None = Complete form bs ws
@@ -62,7 +62,7 @@ followed ws r = record { words = ws ++ r.words; ending = r.ending }
 pub record Whole (form : Form) (bs : List ℕ) (r : Reading) : Type 0 where
   pub ended : Ended form bs r.words r.ending
   -- commands with END last, and nowhere else, are read as what they are
-  pub complete : form.has (opcode end) ≡ true → (ws : List Word) → All (Proper form) ws → All NotEnd ws → bs ≡ encode_all form (ws ++ end ∷ []) → r ≡ record { words = ws ++ end ∷ []; ending = None }
+  pub complete : form.has (opcode end) ≡ true → (ws : List Word) → AllByRecursion (Proper form) ws → AllByRecursion NotEnd ws → bs ≡ encode_all form (ws ++ end ∷ []) → r ≡ record { words = ws ++ end ∷ []; ending = None }
   -- where no byte is left, the refusal stands at the recipe's length
   pub short : r.ending ≡ Some EndOfBytes → extent form r.words ≡ length bs
   -- whatever stands behind the commands before a refusal, they are read

@@ -2,7 +2,7 @@
 use Rattle.std.specs.Prelude.{◌≡◌, ℕ, List, [], ◌∷◌, ◌++◌, Ok, Err, refl}
 use Rattle.std.proofs.Common.{sym, ap, subst, ◌∙◌}
 use Rattle.parts.specs.declared.call.Call.{Call as Calling}
-use Rattle.std.specs.List.{AllByRecursion as All}
+use Rattle.std.specs.List.{AllByRecursion}
 use Rattle.std.proofs.ByRecursion.{All-append}
 use Rattle.parts.specs.Courses.{Answer, Course, after_answer, after, run_on, Set, Same}
 use Rattle.parts.specs.Trees.{answer_of, next_of, restarted, course_of}
@@ -24,11 +24,11 @@ left_join left s (k ∷ ks) ls = left_join left (left s k) ks ls
 
 -- Two things in a relation that gives equal replies and is kept by each call.
 module _ {S T : Type 0} (reply-s : S → Call → Reply) (left-s : S → Call → S) (reply-t : T → Call → Reply) (left-t : T → Call → T) (Rel : S → T → Type 0) (gives : (s : S) (t : T) → Rel s t → (k : Call) → Put k → reply-s s k ≡ reply-t t k) (kept : (s : S) (t : T) → Rel s t → (k : Call) → Put k → Rel (left-s s k) (left-t t k)) where
-  same_replies : (s : S) (t : T) → Rel s t → (ks : List Call) → All Put ks → in_turn reply-s left-s s ks ≡ in_turn reply-t left-t t ks
+  same_replies : (s : S) (t : T) → Rel s t → (ks : List Call) → AllByRecursion Put ks → in_turn reply-s left-s s ks ≡ in_turn reply-t left-t t ks
   same_replies s t r [] w = refl
   same_replies s t r (k ∷ ks) w = λ i. gives s t r k w.0 i ∷ same_replies (left-s s k) (left-t t k) (kept s t r k w.0) ks w.1 i
 
-  still : (s : S) (t : T) → Rel s t → (ks : List Call) → All Put ks → Rel (left_by_all left-s s ks) (left_by_all left-t t ks)
+  still : (s : S) (t : T) → Rel s t → (ks : List Call) → AllByRecursion Put ks → Rel (left_by_all left-s s ks) (left_by_all left-t t ks)
   still s t r [] w = r
   still s t r (k ∷ ks) w = still (left-s s k) (left-t t k) (kept s t r k w.0) ks w.1
 
@@ -79,7 +79,7 @@ module _ (p : Plan) (fresh : Course ℕ) (is-fresh : Same fresh (plan_course p))
     anew = (still part_reply (part_left fresh) reply left_by At at_gives at_kept fresh (begin p) at_begin earlier r.sets).anew;
   }
 
-  pub planned : (c : Course ℕ) (earlier calls : List Call) → All Put calls → Reached p c earlier → AsPlanned p earlier calls (part_replies fresh c calls) (part_after fresh c calls)
+  pub planned : (c : Course ℕ) (earlier calls : List Call) → AllByRecursion Put calls → Reached p c earlier → AsPlanned p earlier calls (part_replies fresh c calls) (part_after fresh c calls)
   planned c earlier calls w r =
       let a = at_earlier c earlier r in
       record {
@@ -99,7 +99,7 @@ alike_reached p q s c earlier r =
     let of-q = (planned q (plan_course p) (alike s) (plan_course p) [] earlier r.sets (record { sets = tt; course = alike s })).course_as in
     record { sets = r.sets; course = λ xs x w h. r.course xs x w h ∙ sym (of-p xs x w h) ∙ of-q xs x w h }
 
-pub promise : (p : Plan) (fresh : Course ℕ) → Same fresh (plan_course p) → (c : Course ℕ) (earlier calls : List Call) → All Put calls → Reached p c earlier → Promise p earlier calls (part_replies fresh c calls) (part_after fresh c calls)
+pub promise : (p : Plan) (fresh : Course ℕ) → Same fresh (plan_course p) → (c : Course ℕ) (earlier calls : List Call) → AllByRecursion Put calls → Reached p c earlier → Promise p earlier calls (part_replies fresh c calls) (part_after fresh c calls)
 promise p fresh f c earlier calls w r =
     let t = after_calls (begin p) (earlier ++ calls) in
     let d = part_after fresh c calls in

@@ -1,6 +1,6 @@
 -- Lists of calls on any part: what they answer and leave, and all that is promised of them. Assumes nothing: these are definitions.
 use Rattle.std.specs.Prelude.{◌≡◌, ℕ, ◌<◌, cond, List, [], ◌∷◌, ◌++◌, map, length, take, drop, Ok, Err, Result, nat_le}
-use Rattle.std.specs.List.{AllByRecursion as All}
+use Rattle.std.specs.List.{AllByRecursion}
 use Rattle.parts.specs.declared.call.Call.{Call as Calling}
 use Rattle.parts.specs.declared.call.Call.TheVariants.{Look, Step, Restart}
 use Rattle.parts.specs.declared.call.Reply.{Reply as Replying}
@@ -74,7 +74,7 @@ part_after fresh = left_by_all (part_left fresh)
 -- A part with the course c is where the earlier calls leave a plan that was just begun. One that was just made or
 -- restarted has the fresh course, and is where no calls lead.
 pub record Reached (p : Plan) (c : Course ℕ) (earlier : List Call) : Type 0 where
-  pub sets : All Put earlier
+  pub sets : AllByRecursion Put earlier
   pub course : Same c (course_of worked (after_calls (begin p) earlier))
 
 -- What calls on such a part have for replies, and the course d that they leave, are those of a plan.

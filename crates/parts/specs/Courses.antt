@@ -1,7 +1,7 @@
 -- Courses: what a part answers to every list of inputs. Assumes nothing: these are definitions.
 -- An input and an output are sets of wires, by their numbers. An answer is an output or a fault.
 use Rattle.std.specs.Prelude.{◌≡◌, ℕ, ◌^◌, ◌<◌, true, List, [], ◌∷◌, ◌++◌, Ok, Err, Result}
-use Rattle.std.specs.List.{AllByRecursion as All}
+use Rattle.std.specs.List.{AllByRecursion}
 use Rattle.parts.specs.declared.fault.Fault.{Fault}
 use Rattle.parts.specs.Lists.{Each}
 use Rattle.signals.specs.declared.wire_set.WireSet.{WireSet}
@@ -46,7 +46,7 @@ Set x = x < 2 ^ 64
 
 -- courses that agree on all lists of sets of wires
 abbrev pub Same : {A : Type 0} → Course A → Course A → Type 0
-Same c d = (xs : List ℕ) (x : ℕ) → All Set xs → Set x → c xs x ≡ d xs x
+Same c d = (xs : List ℕ) (x : ℕ) → AllByRecursion Set xs → Set x → c xs x ≡ d xs x
 
 -- inputs that have the same wires of the set
 abbrev pub AlikeIn : ℕ → ℕ → ℕ → Type 0

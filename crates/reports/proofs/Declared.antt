@@ -1,7 +1,7 @@
 -- The names that commands declare, one command more. Assumes nothing.
 use Rattle.std.proofs.Common.{◌≡◌, ℕ, ◌+◌, ◌<◌, List, [], ◌∷◌, ◌++◌, map, length, get_or, take, None, sym, refl, ap, ◌∙◌, subst, Bor}
 use Rattle.std.proofs.lemmas.List.{flat_map_more, take_more, map-append}
-use Rattle.std.specs.List.{AllByRecursion as All}
+use Rattle.std.specs.List.{AllByRecursion}
 use Rattle.std.proofs.ByRecursion.{All-append}
 use Rattle.std.proofs.lemmas.Bool.{and_parts}
 use Rattle.format.specs.Commands.{Proper, today}
@@ -42,7 +42,7 @@ all_names [] = refl
 all_names (c ∷ cs) = map-append shown (name_ref c) (name_refs cs) ∙ (λ i. one_name c i ++ all_names cs i)
 
 -- ---- the names of proper commands are spelled
-spelled_ref : (c : Command) → Proper today (word c) → All Spelled (name_ref c)
+spelled_ref : (c : Command) → Proper today (word c) → AllByRecursion Spelled (name_ref c)
 spelled_ref (Wire name) h = ((and_parts (spelled name.now) _ h.1).0, tt)
 spelled_ref (Machine n) h = tt
 spelled_ref (Rule r) h = tt
@@ -52,10 +52,10 @@ spelled_ref (Unless w) h = tt
 spelled_ref (Refine k) h = tt
 spelled_ref End h = tt
 
-pub spelled_refs : (cs : List Command) → All (Proper today) (map word cs) → All Spelled (name_refs cs)
+pub spelled_refs : (cs : List Command) → AllByRecursion (Proper today) (map word cs) → AllByRecursion Spelled (name_refs cs)
 spelled_refs [] h = tt
 spelled_refs (c ∷ cs) h = All-append Spelled (name_ref c) (name_refs cs) (spelled_ref c h.0) (spelled_refs cs h.1)
 
 -- commands that reading accepted are proper
-pub all_proper : (bs : List ℕ) (cs : List Command) → Whole today bs (read_all today bs) → read_all today bs ≡ record { words = map word cs; ending = None } → All (Proper today) (map word cs)
+pub all_proper : (bs : List ℕ) (cs : List Command) → Whole today bs (read_all today bs) → read_all today bs ≡ record { words = map word cs; ending = None } → AllByRecursion (Proper today) (map word cs)
 all_proper bs cs h e = (subst (λ (r : Reading). Ended today bs r.words r.ending) e h.ended).proper

@@ -1,6 +1,6 @@
 -- The lines of a wire list, one line more, and names as text. Assumes nothing.
 use Rattle.std.proofs.Common.{◌≡◌, ℕ, ◌+◌, ◌<◌, true, List, [], ◌∷◌, ◌++◌, map, length, get_or, take, is_ok, Ok, Err, IsUtf8, Result, sym, refl, ap, ◌∙◌, append_assoc, append-nil, arith, Bor, MatchResult}
-use Rattle.std.specs.List.{AllByRecursion as All}
+use Rattle.std.specs.List.{AllByRecursion}
 use Rattle.std.proofs.ByRecursion.{IsAscii-from_all}
 use Rattle.std.proofs.lemmas.Str.{IsUtf8-from_ascii}
 use Rattle.std.proofs.lemmas.List.{take_more, map-append, length-map, length-take-le}
@@ -17,11 +17,11 @@ capital_ascii b h = grind (arith, nat_tests)
 byte_ascii : (b : ℕ) → name_byte b ≡ true → b < 128
 byte_ascii b h = grind (arith, nat_tests)
 
-bytes_ascii : (bs : List ℕ) → all_bytes name_byte bs ≡ true → All (λ b. b < 128) bs
+bytes_ascii : (bs : List ℕ) → all_bytes name_byte bs ≡ true → AllByRecursion (λ b. b < 128) bs
 bytes_ascii [] h = tt
 bytes_ascii (b ∷ bs) h = let p = and_parts (name_byte b) _ h in (byte_ascii b p.0, bytes_ascii bs p.1)
 
-name_ascii : (name : List ℕ) → spelled name ≡ true → All (λ b. b < 128) name
+name_ascii : (name : List ℕ) → spelled name ≡ true → AllByRecursion (λ b. b < 128) name
 name_ascii [] h = tt
 name_ascii (b ∷ bs) h = let p = and_parts (capital b) _ h in (capital_ascii b p.0, bytes_ascii bs p.1)
 

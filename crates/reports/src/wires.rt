@@ -1,6 +1,6 @@
 // The wire list of a recipe.
 ghost use Rattle.std.specs.Prelude.{◌≡◌, true, map, IfOk, string_bytes};
-ghost use Rattle.std.specs.List.{AllByRecursion as All};
+ghost use Rattle.std.specs.List.{AllByRecursion};
 ghost use Rattle.format.specs.Names.{spelled};
 ghost use Rattle.reports.specs.Lines.{wire_line_text, wire_list_text, wire_report};
 ghost use Rattle.reports.specs.Names.{name_refs, shown, Spelled};
@@ -35,7 +35,7 @@ fn wire_line(heap: Global, wire: usize, name: &[u8]) -> Result<String, AllocErro
 
 // A line that counts the wires, and a line for each.
 fn list(heap: Global, names: &[&[u8]]) -> Result<String, AllocError>
-    requires { All Spelled names.now }
+    requires { AllByRecursion Spelled names.now }
     ensures { IfOk result (λ s. string_bytes s ≡ wire_list_text (map shown names.now)) }
 {
     let count = names.len();

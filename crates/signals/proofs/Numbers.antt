@@ -1,6 +1,6 @@
 -- Eight bytes and the number that they write. Assumes nothing.
 use Rattle.std.proofs.Common.{◌≡◌, ℕ, zero, suc, ◌+◌, ◌*◌, ◌/◌, ◌%◌, ◌^◌, ◌<◌, List, [], ◌∷◌, length, get_or, drop, sym, ap, ◌∙◌, subst, arith, lit<}
-use Rattle.std.specs.List.{AllByRecursion as All}
+use Rattle.std.specs.List.{AllByRecursion}
 use Rattle.std.proofs.ByRecursion.{All-get_or}
 use Rattle.std.proofs.lemmas.List.{drop_more, drop_all}
 use Rattle.signals.specs.Bytes.{number, eight}
@@ -36,7 +36,7 @@ each_byte a b c d e f g h pa pb pc pd pe pf pg ph =
     let eh : n % 256 ≡ h = omega arith in
     λ i. ea i ∷ eb i ∷ ec i ∷ ed i ∷ ee i ∷ ef i ∷ eg i ∷ eh i ∷ []
 
-pub eight_number : (bs : List ℕ) → length bs ≡ 8 → All (λ b. b < 256) bs → eight (number bs) ≡ bs
+pub eight_number : (bs : List ℕ) → length bs ≡ 8 → AllByRecursion (λ b. b < 256) bs → eight (number bs) ≡ bs
 eight_number bs l s =
     let small : (i : ℕ) → i < 8 → get_or bs i 0 < 256 = λ i h. All-get_or (λ b. b < 256) bs i 0 (omega arith) s in
     let same = written_out 0 8 bs l in
@@ -48,7 +48,7 @@ eight_below : (a b c d e f g h : ℕ) → a < 256 → b < 256 → c < 256 → d 
 eight_below a b c d e f g h pa pb pc pd pe pf pg ph = omega arith
 
 -- eight bytes write a number below 2 ^ 64
-pub number_below : (bs : List ℕ) → length bs ≡ 8 → All (λ b. b < 256) bs → number bs < 2 ^ 64
+pub number_below : (bs : List ℕ) → length bs ≡ 8 → AllByRecursion (λ b. b < 256) bs → number bs < 2 ^ 64
 number_below bs l s =
     let small : (i : ℕ) → i < 8 → get_or bs i 0 < 256 = λ i h. All-get_or (λ b. b < 256) bs i 0 (omega arith) s in
     subst (λ t. number t < 2 ^ 64) (sym (written_out 0 8 bs l))

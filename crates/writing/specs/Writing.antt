@@ -1,6 +1,6 @@
 -- What writing a command does to an output. Assumes nothing: these are definitions.
 use Rattle.std.specs.Prelude.{◌≡◌, ℕ, ◌+◌, Bool, true, cond, List, [], ◌∷◌, ◌++◌, length, take, drop, None, Ok, Err, Result, nat_le}
-use Rattle.std.specs.List.{AllByRecursion as All}
+use Rattle.std.specs.List.{AllByRecursion}
 use Rattle.format.specs.Names.{well_formed}
 use Rattle.format.specs.Commands.{Word, wire, machine, rule, par, hide, unless, refine, end, encode, encode_all, Proper, today}
 use Rattle.format.specs.Reading.{got, first_read, read_all}
@@ -44,8 +44,8 @@ written w at out = cond (well_named w) (put_output at (encode today w) out) out
 -- the bytes are the encodings of these commands, in order and end to end, END not among them
 pub record Holds (bytes : List ℕ) (ws : List Word) : Type 0 where
   pub whole : encode_all today ws ≡ bytes
-  pub proper : All (Proper today) ws
-  pub none : All NotEnd ws
+  pub proper : AllByRecursion (Proper today) ws
+  pub none : AllByRecursion NotEnd ws
 
 -- A command that was written from place `at` on is read back there, and is one more behind those that were written before it.
 pub record Wrote (w : Word) (at : ℕ) (before : List ℕ) (end-at : ℕ) (after : List ℕ) : Type 0 where

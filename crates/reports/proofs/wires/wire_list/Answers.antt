@@ -1,5 +1,5 @@
 use Rattle.std.proofs.Common.{◌≡◌, map, length, vec_items, sym, ap, ◌∙◌, subst}
-use Rattle.std.specs.List.{AllByRecursion as All}
+use Rattle.std.specs.List.{AllByRecursion}
 use Rattle.std.proofs.lemmas.Result.{IfOk-weaker}
 use Rattle.std.proofs.lemmas.Bool.{cond-true, le-leb}
 use Rattle.reports.specs.Lines.{wire_list_text, reading_report}
@@ -16,7 +16,7 @@ pub list-requires : goal.list-requires
 list-requires c =
     let cs = vec_items c.in-Ok.commands in
     let told = c.in-Ok.ensures in
-    subst (All Spelled) (sym (c.as_slice-in-Ok.ensures.value ∙ names-are (goal.at.list-requires c).In_ok-names-in-Ok)) (spelled_refs cs (all_proper c.args.recipe.now cs told.law told.value))
+    subst (AllByRecursion Spelled) (sym (c.as_slice-in-Ok.ensures.value ∙ names-are (goal.at.list-requires c).In_ok-names-in-Ok)) (spelled_refs cs (all_proper c.args.recipe.now cs told.law told.value))
 
 pub returns-in_ok-names-in-Ok : goal.returns-in_ok-names-in-Ok
 returns-in_ok-names-in-Ok c =
