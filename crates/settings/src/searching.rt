@@ -13,8 +13,8 @@ use signals::WireSet;
 
 // The least larger subset of the hidden wires.
 fn next_setting(hidden: WireSet, setting: WireSet) -> WireSet
-    requires bits_value { subset setting.bits hidden.bits ≡ true }
-    requires bits_nonzero { setting.bits ≢ hidden.bits }
+    requires within { subset setting.bits hidden.bits ≡ true }
+    requires not_last { setting.bits ≢ hidden.bits }
     ensures within { subset result.bits hidden.bits ≡ true }
     ensures above { setting.bits < result.bits }
     ensures tried { tried hidden.bits result.bits ≡ tried hidden.bits setting.bits ++ setting.bits ∷ [] }

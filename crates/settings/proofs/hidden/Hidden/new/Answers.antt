@@ -14,4 +14,4 @@ pub invariant_of-result : goal.invariant_of-result
 invariant_of-result c =
     let e = size_ones c.args.set.bits (search rules) in
     let few : size c.args.set.bits ≤ 12 = omega arith in
-    (few, tt)
+    record { few = few }

@@ -15,10 +15,11 @@ pub invariant_of-self : goal.invariant_of-self
 invariant_of-self c =
     let s = c.args.self.now in
     let h = s.hidden.set.bits in
-    let n = s.found.count in (
-      s.within,
-      (one_more_few (tried h s.setting.bits) (settings h) s.setting.bits c.take-self.result.count n (last_tried h s.setting.bits c.if-last.true) c.take-self.ensures.count (going_few s.over h s.setting.bits n c.if-self.false s.few), tt),
-    )
+    let n = s.found.count in
+    record {
+      within = s.within;
+      few = one_more_few (tried h s.setting.bits) (settings h) s.setting.bits c.take-self.result.count n (last_tried h s.setting.bits c.if-last.true) c.take-self.ensures.count (going_few s.over h s.setting.bits n c.if-self.false s.few);
+    }
 
 pub returns-then-last : goal.returns-then-last
 returns-then-last c =
@@ -36,7 +37,8 @@ pub invariant_of-self-2 : goal.invariant_of-self-2
 invariant_of-self-2 c =
     let s = c.args.self.now in
     let h = s.hidden.set.bits in
-    let n = s.found.count in (
-      c.next_setting-self.ensures.within,
-      (still_few s.over h c.next_setting-self.result.bits c.take-self.result.count c.if-self.false (one_more_few (tried h s.setting.bits) (tried h c.next_setting-self.result.bits) s.setting.bits c.take-self.result.count n c.next_setting-self.ensures.tried c.take-self.ensures.count (going_few s.over h s.setting.bits n c.if-self.false s.few)), tt),
-    )
+    let n = s.found.count in
+    record {
+      within = c.next_setting-self.ensures.within;
+      few = still_few s.over h c.next_setting-self.result.bits c.take-self.result.count c.if-self.false (one_more_few (tried h s.setting.bits) (tried h c.next_setting-self.result.bits) s.setting.bits c.take-self.result.count n c.next_setting-self.ensures.tried c.take-self.ensures.count (going_few s.over h s.setting.bits n c.if-self.false s.few));
+    }
