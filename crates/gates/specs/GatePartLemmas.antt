@@ -1,3 +1,4 @@
+-- A part that refuses keeps the laws of parts. Assumes nothing.
 use Rattle.std.specs.Prelude.{◌≡◌, true, cond, Ok, Err, refl}
 use Rattle.std.proofs.Common.{ap, subst}
 use Rattle.std.proofs.lemmas.Bool.{cond_both}
