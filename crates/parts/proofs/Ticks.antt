@@ -4,7 +4,7 @@ use Rattle.std.proofs.lemmas.List.{append_assoc, append-nil, drop_at, drop_more,
 use Rattle.std.proofs.lemmas.Bool.{cond-true, cond-false, le-leb, lt-leb}
 use Rattle.parts.specs.declared.fault.Fault.{Fault}
 use Rattle.parts.specs.declared.stepping.RunReport.{RunReport}
-use Rattle.parts.specs.Courses.{Answer, Course, behind, after_answer, after as after-step, Set}
+use Rattle.parts.specs.Courses.{Answer, Course, behind, after_answer, after as after_step, Set}
 use Rattle.signals.specs.declared.wire_set.WireSet.{WireSet}
 use Rattle.parts.specs.Plans.{Plan, plan_course}
 use Rattle.parts.specs.Calls.{step, Reached, short_list}
@@ -73,7 +73,7 @@ ran_join c (x ∷ xs) zs e = join_step (c [] x) (ran (behind c x) xs) (ran (behi
 leads_none : (p : Plan) (c : Course ℕ) → Leads p c [] c
 leads_none p c earlier r = subst (λ ks. Reached p c ks) (sym (append-nil earlier)) r
 
-pub leads_step : (p : Plan) (c d : Course ℕ) (x : ℕ) → Set x → d ≡ after-step c x → Leads p c (x ∷ []) d
+pub leads_step : (p : Plan) (c d : Course ℕ) (x : ℕ) → Set x → d ≡ after_step c x → Leads p c (x ∷ []) d
 leads_step p c d x h l earlier r = subst (λ e. Reached p e (earlier ++ step x ∷ [])) (sym l) (promise p (plan_course p) (λ _ _ _ _. refl) c earlier (step x ∷ []) (h, tt) r).reached
 
 leads_join : (p : Plan) (c b d : Course ℕ) (xs ys : List ℕ) → Leads p c xs b → Leads p b ys d → Leads p c (xs ++ ys) d
@@ -90,7 +90,7 @@ pub gone_none : (p : Plan) (c : Course ℕ) (before : List ℕ) → Gone p c c [
 gone_none p c before = record { fault = refl; outputs = refl; course = refl; reached = leads_none p c }
 
 gone_more : (p : Plan) (c b d : Course ℕ) (xs before after : List ℕ) → Gone p c b xs before after → length xs < length before → (x o : ℕ) → b [] x ≡ Ok o → d ≡ behind b x → Leads p b (x ∷ []) d → Gone p c d (xs ++ x ∷ []) before (set after (length xs) o)
-gone_more p c b d xs before after gone h x o e l more-led =
+gone_more p c b d xs before after gone h x o e l more_led =
     let n = length xs in
     let outs = (ran c xs).0 in
     let more : ran c (xs ++ x ∷ []) ≡ (outs ++ o ∷ [], None) =
@@ -104,7 +104,7 @@ gone_more p c b d xs before after gone h x o e l more-led =
           ∙ write_next outs before n o (ended c xs gone.fault) h
           ∙ (λ i. (sym more i).0 ++ drop (sym (length_push xs x) i) before);
       course = l ∙ ap (λ f. behind f x) gone.course ∙ (λ i ys y. c (sym (append_assoc xs (x ∷ []) ys) i) y);
-      reached = leads_join p c b d xs (x ∷ []) gone.reached more-led;
+      reached = leads_join p c b d xs (x ∷ []) gone.reached more_led;
     }
 
 -- ---- a run that was begun
@@ -115,8 +115,8 @@ law c d xs before after ticks fault t f a k =
     record {
       within = subst (λ n. n ≤ length xs) (sym t) (within c xs);
       each = λ i h.
-          let in-outs : i < length outs = subst (λ n. i < n) t h in
-          each c xs i in-outs ∙ ap (λ o. Ok o) (sym (ap (λ l. get_or l i 0) a ∙ get_or_append_left outs (drop (length outs) before) 0 i in-outs));
+          let in_outs : i < length outs = subst (λ n. i < n) t h in
+          each c xs i in_outs ∙ ap (λ o. Ok o) (sym (ap (λ l. get_or l i 0) a ∙ get_or_append_left outs (drop (length outs) before) 0 i in_outs));
       ended = λ e. t ∙ ended c xs (sym f ∙ e);
       stopped = λ g e. subst (λ n. (n < length xs) × (answer_at c xs n ≡ Err g)) (sym t) (stopped c xs g (sym f ∙ e));
       stay = subst (λ n. drop n after ≡ drop n before) (sym t) (ap (drop (length outs)) a ∙ drop_at outs (drop (length outs) before) (length outs) refl);
@@ -192,21 +192,21 @@ said_stopped p c b d xs before after room e h i l gone f s k =
 
 -- ---- the program's lists
 -- one more input
-pub gone_next : (p p' : Plan) (c b d : Course ℕ) (inputs before after : List WireSet) (i : ℕ) (default output : WireSet) → Gone p c b (take i (numbers inputs)) (numbers before) (numbers after) → i < length inputs → length inputs ≤ length before → p' ≡ p → Ok output.bits ≡ b [] (get_or inputs i default).bits → d ≡ after-step b (get_or inputs i default).bits → Leads p' b ((get_or inputs i default).bits ∷ []) d → Gone p c d (take (i + 1) (numbers inputs)) (numbers before) (numbers (set after i output))
-gone_next p p' c b d inputs before after i default output gone h room same-p e l led =
+pub gone_next : (p p' : Plan) (c b d : Course ℕ) (inputs before after : List WireSet) (i : ℕ) (default output : WireSet) → Gone p c b (take i (numbers inputs)) (numbers before) (numbers after) → i < length inputs → length inputs ≤ length before → p' ≡ p → Ok output.bits ≡ b [] (get_or inputs i default).bits → d ≡ after_step b (get_or inputs i default).bits → Leads p' b ((get_or inputs i default).bits ∷ []) d → Gone p c d (take (i + 1) (numbers inputs)) (numbers before) (numbers (set after i output))
+gone_next p p' c b d inputs before after i default output gone h room same_p e l led =
     let bits : WireSet → ℕ = λ s. s.bits in
     let xs = numbers inputs in
     let many : length xs ≡ length inputs = length-map inputs bits in
     let as_many : length (numbers before) ≡ length before = length-map before bits in
     let same : get_or xs i 0 ≡ (get_or inputs i default).bits = get_or-map bits inputs i default 0 h in
     let count : length (take i xs) ≡ i = length-take-le i xs (omega arith) in
-    let more = gone_more p c b d (take i xs) (numbers before) (numbers after) gone (omega arith) (get_or xs i 0) output.bits (ap (b []) same ∙ sym e) (l ∙ ap (λ a. after_answer a b (get_or inputs i default).bits) (sym e) ∙ ap (behind b) (sym same)) (subst (λ y. Leads p b (y ∷ []) d) (sym same) (subst (λ q. Leads q b ((get_or inputs i default).bits ∷ []) d) same-p led)) in
+    let more = gone_more p c b d (take i xs) (numbers before) (numbers after) gone (omega arith) (get_or xs i 0) output.bits (ap (b []) same ∙ sym e) (l ∙ ap (λ a. after_answer a b (get_or inputs i default).bits) (sym e) ∙ ap (behind b) (sym same)) (subst (λ y. Leads p b (y ∷ []) d) (sym same) (subst (λ q. Leads q b ((get_or inputs i default).bits ∷ []) d) same_p led)) in
     subst (λ t. Gone p c d (take (i + 1) xs) (numbers before) t) (sym (map-set bits after i output))
     (subst (λ n. Gone p c d (take (i + 1) xs) (numbers before) (set (numbers after) n output.bits)) count
     (subst (λ t. Gone p c d t (numbers before) (set (numbers after) (length (take i xs)) output.bits)) (sym (take_more xs i 0 (omega arith))) more))
 
 -- an input that is refused
-pub said_next : (p : Plan) (c b d : Course ℕ) (inputs before after : List WireSet) (i : ℕ) (default : WireSet) (f : Fault) → Gone p c b (take i (numbers inputs)) (numbers before) (numbers after) → i < length inputs → length inputs ≤ length before → Err f ≡ b [] (get_or inputs i default).bits → d ≡ after-step b (get_or inputs i default).bits → Said p c d (numbers inputs) (numbers before) (numbers after) (length before) i (Some f)
+pub said_next : (p : Plan) (c b d : Course ℕ) (inputs before after : List WireSet) (i : ℕ) (default : WireSet) (f : Fault) → Gone p c b (take i (numbers inputs)) (numbers before) (numbers after) → i < length inputs → length inputs ≤ length before → Err f ≡ b [] (get_or inputs i default).bits → d ≡ after_step b (get_or inputs i default).bits → Said p c d (numbers inputs) (numbers before) (numbers after) (length before) i (Some f)
 said_next p c b d inputs before after i default f gone h room e l =
     let bits : WireSet → ℕ = λ s. s.bits in
     let many : length (numbers inputs) ≡ length inputs = length-map inputs bits in

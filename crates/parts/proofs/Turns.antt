@@ -131,12 +131,12 @@ done_promise p fresh c d calls before after done =
 
 -- one more call of a list of calls, by the facts of a part whose plan and fresh course are the same as at the start
 pub done_next : (p p' : Plan) (fresh fresh' c b d : Course ℕ) (calls : List Calling) (before after : List Replying) (i : ℕ) (default : Calling) (r : Replying) → Done p fresh c b (take i calls) before after → p' ≡ p → fresh' ≡ fresh → i < length calls → length calls ≤ length before → reply_of r ≡ part_reply b (call_of (get_or calls i default)) → d ≡ part_left fresh' b (call_of (get_or calls i default)) → Promised p' b (call_of (get_or calls i default) ∷ []) (reply_of r ∷ []) d → Done p fresh c d (take (i + 1) calls) before (set after i r)
-done_next p p' fresh fresh' c b d calls before after i default r done same-p same-fresh h room e l told =
+done_next p p' fresh fresh' c b d calls before after i default r done same_p same_fresh h room e l told =
     let k = get_or calls i default in
     let count : length (take i calls) ≡ i = length-take-le i calls (omega arith) in
     let more = done_more p fresh c b d (take i calls) before after done (omega arith) k r e
-    (l ∙ ap (λ f. part_left f b (call_of k)) same-fresh)
-    (subst (λ q. Promised q b (call_of k ∷ []) (reply_of r ∷ []) d) same-p told)
+    (l ∙ ap (λ f. part_left f b (call_of k)) same_fresh)
+    (subst (λ q. Promised q b (call_of k ∷ []) (reply_of r ∷ []) d) same_p told)
     in
     subst (λ n. Done p fresh c d (take (i + 1) calls) before (set after n r)) count
     (subst (λ ks. Done p fresh c d ks before (set after (length (take i calls)) r)) (sym (take_more calls i default h)) more)

@@ -28,7 +28,7 @@ module _ {L M : Type 0} (R : Reacting L M) where
     order (free {w} {x} {c = c} h a) o e = order a o (sym (cond-false (has x w) (Ok 0) (answer_of R c x) h) ∙ e)
     order (moving {m} {x} w) o e = let v = outputs_ok (move_of R m x) o e in order_staged w v.0 v.1
 
-    order_staged : {m : StagedComposition L M} {x y : ℕ} {site : Site L M} → AwakeStaged R m x site y → (v : Move) → move_of R m x ≡ Ok v → InOrder R site y
+    pub order_staged : {m : StagedComposition L M} {x y : ℕ} {site : Site L M} → AwakeStaged R m x site y → (v : Move) → move_of R m x ≡ Ok v → InOrder R site y
     order_staged here_staged v e = (v, e)
     order_staged (base {k} {x} {m = m} {c} w) v e = let p = both_ok with_outputs (move_of R m x) (awake_answer k (stage_of R m) (answer_of R c x)) v e in order_staged w p.0 p.2
     order_staged (refined {k} {x} {m = m} {c} h w) v e =
@@ -53,7 +53,7 @@ module _ {L M : Type 0} (R : Reacting L M) where
         (cases_Bool (has x w))
     accepting (moved m) x h = let v = accepting_move m x (λ s y a. h s y (moving a)) in (v.0.0, ap outputs v.1)
 
-    accepting_move : (m : StagedComposition L M) (x : ℕ) → ((site : Site L M) (y : ℕ) → AwakeStaged R m x site y → InOrder R site y) → Accepted (move_of R m x)
+    pub accepting_move : (m : StagedComposition L M) (x : ℕ) → ((site : Site L M) (y : ℕ) → AwakeStaged R m x site y → InOrder R site y) → Accepted (move_of R m x)
     accepting_move (staged m) x h = h (at_staged m) x here_staged
     accepting_move (refinement k m c) x h =
         let v = accepting_move m x (λ s y a. h s y (base a)) in

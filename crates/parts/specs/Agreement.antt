@@ -60,7 +60,7 @@ module _ {L M : Type 0} (R : Reacting L M) (steady : Steady R) where
     restart_twice (inhibition w c) = ap (inhibition w) (restart_twice c)
     restart_twice (moved m) = ap moved (put_back_twice m)
 
-    put_back_twice : (m : StagedComposition L M) → put_back R (put_back R m) ≡ put_back R m
+    pub put_back_twice : (m : StagedComposition L M) → put_back R (put_back R m) ≡ put_back R m
     put_back_twice (staged p) = ap staged (steady.back_twice p)
     put_back_twice (refinement k m c) = λ i. refinement k (put_back_twice m i) (restart_twice c i)
 
@@ -77,12 +77,12 @@ module _ {L M : Type 0} (R : Reacting L M) (steady : Steady R) where
     restart_next (inhibition w c) x = ap (inhibition w) (cond_both (has x w) c (next_of R c x) (λ t. restarted R t ≡ restarted R c) (λ _. refl) (λ _. restart_next c x))
     restart_next (moved m) x = ap moved (put_back_went m x)
 
-    put_back_went : (m : StagedComposition L M) (x : ℕ) → put_back R (went_of R m x) ≡ put_back R m
+    pub put_back_went : (m : StagedComposition L M) (x : ℕ) → put_back R (went_of R m x) ≡ put_back R m
     put_back_went (staged p) x = ap staged (steady.back_went p x)
     put_back_went (refinement k m c) x = λ i. refinement k (put_back_went m x i) (restart_cases (over_after k (stage_of R m) (move_of R m x)) (stage_of R m == k) (restarted R c) (next_of R c x) c (restart_twice c) (restart_next c x) i)
 
   -- of a refinement's inside, whatever became of it
-  restart_inside : (u w : Bool) (c : Composition L M) (x : ℕ) → restarted R (cond u (restarted R c) (cond w (next_of R c x) c)) ≡ restarted R c
+  pub restart_inside : (u w : Bool) (c : Composition L M) (x : ℕ) → restarted R (cond u (restarted R c) (cond w (next_of R c x) c)) ≡ restarted R c
   restart_inside u w c x = restart_cases u w (restarted R c) (next_of R c x) c (restart_twice c) (restart_next c x)
 
   -- an accepted move tells the stage that it leads to

@@ -23,14 +23,14 @@ left_join left s [] ls = refl
 left_join left s (k ∷ ks) ls = left_join left (left s k) ks ls
 
 -- Two things in a relation that gives equal replies and is kept by each call.
-module _ {S T : Type 0} (reply-s : S → Call → Reply) (left-s : S → Call → S) (reply-t : T → Call → Reply) (left-t : T → Call → T) (Rel : S → T → Type 0) (gives : (s : S) (t : T) → Rel s t → (k : Call) → Put k → reply-s s k ≡ reply-t t k) (kept : (s : S) (t : T) → Rel s t → (k : Call) → Put k → Rel (left-s s k) (left-t t k)) where
-  same_replies : (s : S) (t : T) → Rel s t → (ks : List Call) → AllByRecursion Put ks → in_turn reply-s left-s s ks ≡ in_turn reply-t left-t t ks
+module _ {S T : Type 0} (reply_s : S → Call → Reply) (left_s : S → Call → S) (reply_t : T → Call → Reply) (left_t : T → Call → T) (Rel : S → T → Type 0) (gives : (s : S) (t : T) → Rel s t → (k : Call) → Put k → reply_s s k ≡ reply_t t k) (kept : (s : S) (t : T) → Rel s t → (k : Call) → Put k → Rel (left_s s k) (left_t t k)) where
+  same_replies : (s : S) (t : T) → Rel s t → (ks : List Call) → AllByRecursion Put ks → in_turn reply_s left_s s ks ≡ in_turn reply_t left_t t ks
   same_replies s t r [] w = refl
-  same_replies s t r (k ∷ ks) w = λ i. gives s t r k w.0 i ∷ same_replies (left-s s k) (left-t t k) (kept s t r k w.0) ks w.1 i
+  same_replies s t r (k ∷ ks) w = λ i. gives s t r k w.0 i ∷ same_replies (left_s s k) (left_t t k) (kept s t r k w.0) ks w.1 i
 
-  still : (s : S) (t : T) → Rel s t → (ks : List Call) → AllByRecursion Put ks → Rel (left_by_all left-s s ks) (left_by_all left-t t ks)
+  still : (s : S) (t : T) → Rel s t → (ks : List Call) → AllByRecursion Put ks → Rel (left_by_all left_s s ks) (left_by_all left_t t ks)
   still s t r [] w = r
-  still s t r (k ∷ ks) w = still (left-s s k) (left-t t k) (kept s t r k w.0) ks w.1
+  still s t r (k ∷ ks) w = still (left_s s k) (left_t t k) (kept s t r k w.0) ks w.1
 
 -- ---- the course behind a step, of courses that agree
 after_same : (c d : Course ℕ) (x : ℕ) → Set x → Same c d → Same (after c x) (after d x)
@@ -44,7 +44,7 @@ step_course : (t : Working) (x : ℕ) → after (course t) x ≡ course (left_by
 step_course t x = run_after (answer_of worked) (next_of worked) t x
 
 -- ---- a part and its plan worked out
-module _ (p : Plan) (fresh : Course ℕ) (is-fresh : Same fresh (plan_course p)) where
+module _ (p : Plan) (fresh : Course ℕ) (is_fresh : Same fresh (plan_course p)) where
   record At (c : Course ℕ) (t : Working) : Type 0 where
     now : Same c (course t)
     anew : restarted worked t ≡ begin p
@@ -65,12 +65,12 @@ module _ (p : Plan) (fresh : Course ℕ) (is-fresh : Same fresh (plan_course p))
     anew = step_anew t x r.anew (answer_of worked t x);
   }
   at_kept c t r restart h = record {
-    now = subst (λ u. Same fresh (course u)) (sym r.anew) is-fresh;
+    now = subst (λ u. Same fresh (course u)) (sym r.anew) is_fresh;
     anew = restart_twice worked worked_steady t ∙ r.anew;
   }
 
   at_begin : At fresh (begin p)
-  at_begin = record { now = is-fresh; anew = restart_begin p }
+  at_begin = record { now = is_fresh; anew = restart_begin p }
 
   -- wherever earlier calls lead, a restart leads back
   at_earlier : (c : Course ℕ) (earlier : List Call) → Reached p c earlier → At c (after_calls (begin p) earlier)
@@ -95,9 +95,9 @@ reached_fresh p fresh f = record { sets = tt; course = λ xs x _ _. ap (λ g. g 
 -- where earlier calls lead an alike plan, the same inputs have the same answers
 alike_reached : (p q : Plan) → Alike p q → (c : Course ℕ) (earlier : List Call) → Reached p c earlier → Reached q c earlier
 alike_reached p q s c earlier r =
-    let of-p = (planned p (plan_course p) (λ xs x w h. refl) (plan_course p) [] earlier r.sets (record { sets = tt; course = λ xs x w h. refl })).course_as in
-    let of-q = (planned q (plan_course p) (alike s) (plan_course p) [] earlier r.sets (record { sets = tt; course = alike s })).course_as in
-    record { sets = r.sets; course = λ xs x w h. r.course xs x w h ∙ sym (of-p xs x w h) ∙ of-q xs x w h }
+    let of_p = (planned p (plan_course p) (λ xs x w h. refl) (plan_course p) [] earlier r.sets (record { sets = tt; course = λ xs x w h. refl })).course_as in
+    let of_q = (planned q (plan_course p) (alike s) (plan_course p) [] earlier r.sets (record { sets = tt; course = alike s })).course_as in
+    record { sets = r.sets; course = λ xs x w h. r.course xs x w h ∙ sym (of_p xs x w h) ∙ of_q xs x w h }
 
 pub promise : (p : Plan) (fresh : Course ℕ) → Same fresh (plan_course p) → (c : Course ℕ) (earlier calls : List Call) → AllByRecursion Put calls → Reached p c earlier → Promise p earlier calls (part_replies fresh c calls) (part_after fresh c calls)
 promise p fresh f c earlier calls w r =
@@ -119,7 +119,7 @@ pub reached_by : (p : Plan) (fresh : Course ℕ) → Same fresh (plan_course p) 
 reached_by p fresh f c earlier k h r = (promise p fresh f c earlier (k ∷ []) (h, tt) r).reached
 
 -- One call on a part, whose reply r and course d behind it are those of the part's courses.
-promised : (p : Plan) (fresh c d : Course ℕ) (k : Call) (r : Reply) → fresh ≡ plan_course p → Put k → r ≡ part_reply c k → d ≡ part_left fresh c k → Promised p c (k ∷ []) (r ∷ []) d
+pub promised : (p : Plan) (fresh c d : Course ℕ) (k : Call) (r : Reply) → fresh ≡ plan_course p → Put k → r ≡ part_reply c k → d ≡ part_left fresh c k → Promised p c (k ∷ []) (r ∷ []) d
 promised p fresh c d k r f h e l earlier z = subst (λ u. Promise p earlier (k ∷ []) (u ∷ []) d) (sym e) (subst (λ u. Promise p earlier (k ∷ []) (part_reply c k ∷ []) u) (sym l) (promise p fresh (λ xs x _ _. ap (λ g. g xs x) f) c earlier (k ∷ []) (h, tt) z))
 
 -- The program's call k, which is the call j: what its contract says follows from what is known of j.

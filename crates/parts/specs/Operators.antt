@@ -60,7 +60,7 @@ inhibit w x a = cond (has x w) (Ok 0) a
 abbrev pub Move : Type 0
 Move = ℕ × ℕ × Bool
 
--- a written rule fired: whatever hangs on it hangs on this definition
+-- a written rule fired
 abbrev pub fired : Move → Bool
 fired m = m.2
 

@@ -32,7 +32,7 @@ mutual
   restart_begin (inhibition w c) = ap (inhibition w) (restart_begin c)
   restart_begin (moved m) = ap moved (back_begin m)
 
-  back_begin : (m : StagedPlan) → put_back worked (begin_staged m) ≡ begin_staged m
+  pub back_begin : (m : StagedPlan) → put_back worked (begin_staged m) ≡ begin_staged m
   back_begin (staged c) = refl
   back_begin (refinement k m c) = λ i. refinement k (back_begin m i) (restart_begin c i)
 

@@ -1,10 +1,10 @@
 // Rewrites the recipe on standard input to standard output. A refusal is told on standard error, and ends the program with status 1.
 #![tactic(auto)]
 
-use anyhow::anyhow;
 use format::RecipeError;
 use reports::lines::load_line;
 use std::io::{Read, Write};
+use std::process::ExitCode;
 use writing::rewrite::rewrite;
 
 // Rewrites what is read, and answers why it is refused, if it is.
@@ -22,12 +22,12 @@ fn run(rt: &HostRuntime) -> anyhow::Result<Option<RecipeError>> {
     }
 }
 
-fn main(rt: HostRuntime) -> anyhow::Result<()> {
+fn main(rt: HostRuntime) -> anyhow::Result<ExitCode> {
     match run(&rt)? {
-        None => Ok(()),
+        None => Ok(ExitCode::SUCCESS),
         Some(error) => {
             rt.eprint(load_line(rt.alloc(), error)?)?;
-            Err(anyhow!("the recipe is refused"))
+            Ok(ExitCode::FAILURE)
         }
     }
 }
