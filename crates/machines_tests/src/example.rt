@@ -6,24 +6,24 @@ use signals::WireSet;
 use std::test::Fail;
 
 // The wires A and B, and neither.
-pub const A: WireSet = WireSet { bits: 1 };
+pub(crate) const A: WireSet = WireSet { bits: 1 };
 
-pub const B: WireSet = WireSet { bits: 2 };
+pub(crate) const B: WireSet = WireSet { bits: 2 };
 
-pub const NONE: WireSet = WireSet { bits: 0 };
+pub(crate) const NONE: WireSet = WireSet { bits: 0 };
 
 // A set that no part of the examples emits: what stands in a list before a run.
-pub const BEFORE: WireSet = WireSet { bits: 0xee };
+pub(crate) const BEFORE: WireSet = WireSet { bits: 0xee };
 
 // The fault of a gate that refuses A.
-pub const CLOSED: Fault = Fault {
+pub(crate) const CLOSED: Fault = Fault {
     cause: 90,
     place: 7,
     count: 2,
 };
 
 // A rule on the wire A alone.
-pub fn on_a(from: u8, to: u8, emits: WireSet) -> Rule {
+pub(crate) fn on_a(from: u8, to: u8, emits: WireSet) -> Rule {
     Rule {
         from,
         to,
@@ -34,7 +34,7 @@ pub fn on_a(from: u8, to: u8, emits: WireSet) -> Rule {
 }
 
 // The bit: from 0 to 1 on A; from 1 to 0 on A, emitting B.
-pub fn bit() -> Result<Machine, Fail> {
+pub(crate) fn bit() -> Result<Machine, Fail> {
     let machine = Machine::new(2, &[on_a(0, 1, NONE), on_a(1, 0, B)])?;
     Ok(machine)
 }
