@@ -1,7 +1,8 @@
 -- Whole recipes: what reading to the end comes to. Assumes nothing.
-use Rattle.std.proofs.Common.{◌≡◌, ℕ, zero, suc, ◌+◌, ◌-◌, ◌<◌, ◌≤◌, Bool, true, false, cond, eqb, leb, List, [], ◌∷◌, ◌++◌, length, take, drop, Some, None, Option, sym, refl, ap, ◌∙◌, subst, append_assoc, append-nil, suc-add, zero-add, sub-one, arith}
+use Rattle.std.proofs.Common.{◌≡◌, ℕ, zero, suc, ◌+◌, ◌-◌, ◌<◌, ◌≤◌, Bool, true, false, cond, eqb, leb, List, [], ◌∷◌, ◌++◌, length, take, drop, Some, None, Option, sym, refl, ap, ◌∙◌, subst, append_assoc, append-nil, sub-one, arith}
 use Rattle.std.specs.List.{AllByRecursion}
 use Rattle.std.proofs.lemmas.Bool.{cond-true, cond-false, le-leb, leb-true, cond_both, true≢false}
+use Rattle.std.proofs.Math.Seq.{take-append-add}
 use Rattle.std.proofs.ByRecursion.{All-drop}
 use Rattle.std.proofs.lemmas.List.{flat_map_more, length-append, length-take-le, length-drop, take_at, drop_at}
 use Rattle.format.specs.Names.{before_zero, holds_name}
@@ -21,21 +22,12 @@ read_skip form zero bs = refl
 read_skip form (suc k) [] = refl
 read_skip form (suc k) (b ∷ bs) = read_skip form k bs
 
--- what a first read makes of the reading of all
-abbrev pub first_then : Read → Reading → Reading
-first_then (got w n) rest = before w rest
-first_then (refused r) rest = record { words = []; ending = Some r }
-
-abbrev used : Read → ℕ
-used (got w n) = n
-used (refused r) = 1
-
 some_used : (form : Form) (w : Word) (n : ℕ) (bs : List ℕ) → Taken form bs w n → 0 < n
 some_used form w n bs h = omega (arith, h.long)
 
 -- reading is reading the first command, and then behind it
 pub read_step : (form : Form) (bs : List ℕ) (w : Word) (n : ℕ) → first_read form bs ≡ got w n → 0 < n → read_all form bs ≡ before w (read_all form (drop n bs))
-read_step form [] w n e h = let z : ◌≡◌ {A = ℕ} 0 1 = cc in absurd (omega arith)
+read_step form [] w n e h = absurd (cc)
 read_step form (b ∷ bs) w zero e h = absurd (omega arith)
 read_step form (b ∷ bs) w (suc n) e h =
     ap (λ (r : Read). elim r [ got w n ↦ before w (read_from form (n - 1) bs) | refused r ↦ record { words = []; ending = Some r } ]) e
@@ -147,7 +139,7 @@ module _ (form : Form) where
   unsettled r e q f s = let same : r ≡ e = cc in true≢false (sym s ∙ ap settled (sym same) ∙ f)
 
   got_not : (w : Word) (n : ℕ) (e : Refusal) → got w n ≡ refused e → ⊥
-  got_not w n e q = let z : ◌≡◌ {A = ℕ} 0 1 = cc in omega arith
+  got_not w n e q = cc
 
   operands_some : (k : Opcode) (bs : List ℕ) → at_end (operands_read form k bs) ≡ false
   operands_some Wire bs = cond_both (holds_name (take form.width bs)) _ _ (λ x. at_end x ≡ false) (λ _. refl) (λ _. refl)
@@ -197,17 +189,13 @@ module _ (form : Form) where
   first_blind [] t e s q = absurd (unsettled EndOfBytes e q refl s)
   first_blind (b ∷ bs) t e s q = command_blind (command_of form b) bs t e s q
 
-  take_past : (xs ys : List ℕ) (n : ℕ) → take (length xs + n) (xs ++ ys) ≡ xs ++ take n ys
-  take_past [] ys n = ap (λ k. take k ys) (zero-add n)
-  take_past (x ∷ xs) ys n = ap (λ k. take k (x ∷ (xs ++ ys))) (suc-add (length xs) n) ∙ ap (λ u. x ∷ u) (take_past xs ys n)
-
   stopped_blind : (bs : List ℕ) (ws : List Word) (e : Refusal) → Stopped form bs ws e → settled e ≡ true → (t : List ℕ) → let p = extent form ws in read_all form (take (p + named form (drop p bs)) bs ++ t) ≡ record { words = ws; ending = Some e }
   stopped_blind bs ws e h s t =
       let p = extent form ws in
       let at : drop p bs ≡ h.behind = ap (drop p) (sym h.split) ∙ drop_at (encode_all form ws) h.behind p refl in
       let n = named form h.behind in
       let cut : take (p + named form (drop p bs)) bs ≡ encode_all form ws ++ take n h.behind =
-      ap (λ x. take (p + named form x) bs) at ∙ ap (take (p + n)) (sym h.split) ∙ take_past (encode_all form ws) h.behind n in
+      ap (λ x. take (p + named form x) bs) at ∙ ap (take (p + n)) (sym h.split) ∙ take-append-add (encode_all form ws) h.behind n in
       let rest = take n h.behind ++ t in
       ap (λ x. read_all form (x ++ t)) cut
       ∙ ap (read_all form) (append_assoc (encode_all form ws) (take n h.behind) t)

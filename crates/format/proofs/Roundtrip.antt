@@ -1,6 +1,5 @@
 -- One command: reading what was encoded, and encoding what was read. Assumes nothing.
 use Rattle.std.proofs.Common.{◌≡◌, ℕ, suc, ◌+◌, ◌^◌, ◌<◌, ◌≤◌, Bool, true, false, cond, eqb, leb, List, [], ◌∷◌, ◌++◌, length, get_or, take, drop, Some, None, Option, sym, refl, ap, ◌∙◌, subst, append_assoc, arith}
-use Rattle.std.specs.List.{AllByRecursion}
 use Rattle.std.proofs.lemmas.Bool.{and_parts, cond-true, eqb-true, le-leb, leb-true, cond_both, true≢false}
 use Rattle.std.proofs.ByRecursion.{All-get_or, All-take, All-drop}
 use Rattle.std.proofs.lemmas.List.{length-append, length-take-le, length-drop, take_at, drop_more, take-append-drop, drop-drop}
@@ -9,6 +8,7 @@ use Rattle.signals.proofs.Numbers.{number_eight, eight_number, number_below}
 use Rattle.format.specs.Names.{well_formed, spelled, field, before_zero, holds_name}
 use Rattle.format.specs.Commands.{Form, Word, wire, machine, rule, par, hide, unless, refine, end, opcode, byte, size, opcode_of, if_had, operands, encode, Fitting, Proper}
 use Rattle.format.specs.Reading.{Read, got, refused, set_at, operands_read, command_read, first_read, is_end}
+use Rattle.format.specs.Recipes.{Bytes}
 use Rattle.format.specs.declared.command.Opcode.{Opcode}
 use Rattle.format.specs.declared.command.Opcode.TheVariants.{Wire, Machine, Rule, Par, Hide, Unless, Refine, End}
 use Rattle.format.proofs.Spelling.{before_field, field_holds, field_length, held_field, held_well_formed}
@@ -39,13 +39,10 @@ byte_opcode End = refl
 abbrev Alone : Word → List ℕ → Type 0
 Alone w rest = is_end w ≡ true → rest ≡ []
 
-take_front : (xs ys : List ℕ) (n : ℕ) → length xs ≡ n → take n (xs ++ ys) ≡ xs
-take_front xs ys n h = take_at xs ys n h
-
 operands_back : (form : Form) (w : Word) (rest : List ℕ) → Fitting form w → Alone w rest → operands_read form (opcode w) (operands form w ++ rest) ≡ got w (suc (size form (opcode w)))
 operands_back form (wire name) rest h alone =
     let s = and_parts (spelled name) _ h in
-    let e = take_front (field form.width name) rest form.width (operands_length form (wire name) h) in
+    let e = take_at (field form.width name) rest form.width (operands_length form (wire name) h) in
     cond-true _ _ _ (ap holds_name e ∙ field_holds form.width name s.0)
     ∙ ap (λ t. got (wire (before_zero t)) (suc form.width)) e
     ∙ ap (λ t. got (wire t) (suc form.width)) (before_field form.width name s.0)
@@ -91,9 +88,6 @@ pub record Taken (form : Form) (bs : List ℕ) (w : Word) (n : ℕ) : Type 0 whe
 abbrev pub Sound : Form → List ℕ → Read → Type 0
 Sound form bs (got w n) = Taken form bs w n
 Sound form bs (refused r) = Unit {0}
-
-abbrev Bytes : List ℕ → Type 0
-Bytes = AllByRecursion (λ b. b < 256)
 
 set_back : (i : ℕ) (bs : List ℕ) → Bytes bs → i + 8 ≤ length bs → (set_at i bs < 2 ^ 64) × (eight (set_at i bs) ≡ take 8 (drop i bs))
 set_back i bs s l =

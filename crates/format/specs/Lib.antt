@@ -4,3 +4,4 @@ pub mod Commands
 pub mod Reading
 pub mod Recipes
 pub mod Values
+pub mod Stepping

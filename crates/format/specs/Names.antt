@@ -1,5 +1,6 @@
 -- Names of wires, and the field of bytes in which a recipe has one. Assumes nothing: these are definitions.
-use Rattle.std.specs.Prelude.{ℕ, ◌-◌, Bool, true, false, cond, ◌&&◌, ◌||◌, List, [], ◌∷◌, ◌++◌, length, drop, replicate, ◌==◌, nat_eq, nat_le}
+use Rattle.std.specs.Prelude.{ℕ, ◌-◌, Bool, false, cond, ◌&&◌, ◌||◌, List, [], ◌∷◌, ◌++◌, length, drop, replicate, ◌==◌, nat_eq, nat_le}
+use Rattle.std.specs.List.{list_all}
 
 -- A to Z
 abbrev pub capital : ℕ → Bool
@@ -9,14 +10,10 @@ capital b = nat_le 65 b && nat_le b 90
 abbrev pub name_byte : ℕ → Bool
 name_byte b = capital b || ((nat_le 48 b && nat_le b 57) || b == 45)
 
-abbrev pub all_bytes : (ℕ → Bool) → List ℕ → Bool
-all_bytes test [] = true
-all_bytes test (b ∷ bs) = test b && all_bytes test bs
-
 -- a capital letter, then capital letters, digits and hyphens
 abbrev pub spelled : List ℕ → Bool
 spelled [] = false
-spelled (b ∷ bs) = capital b && all_bytes name_byte bs
+spelled (b ∷ bs) = capital b && list_all name_byte bs
 
 -- a name that a field of `width` bytes can hold
 abbrev pub well_formed : ℕ → List ℕ → Bool
@@ -33,4 +30,4 @@ before_zero (b ∷ bs) = cond (b == 0) [] (b ∷ before_zero bs)
 
 -- a field holds a name, with nothing but zero bytes behind it
 abbrev pub holds_name : List ℕ → Bool
-holds_name bytes = spelled (before_zero bytes) && all_bytes (λ b. nat_eq b 0) (drop (length (before_zero bytes)) bytes)
+holds_name bytes = spelled (before_zero bytes) && list_all (λ b. nat_eq b 0) (drop (length (before_zero bytes)) bytes)

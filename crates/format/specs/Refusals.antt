@@ -1,5 +1,5 @@
 -- The numbers of the refusals. Assumes nothing: these are definitions.
-use Rattle.std.specs.Prelude.{ℕ}
+use Rattle.std.specs.Prelude.{ℕ, List, ◌++◌, codes, decimal}
 use Rattle.format.specs.declared.refusal.Refusal.{Refusal}
 use Rattle.format.specs.declared.refusal.RecipeError.{RecipeError}
 use Rattle.format.specs.declared.refusal.Refusal.TheVariants.{EndOfBytes, UnknownCommand, MissingOperands, MalformedName, MisplacedRule, BytesAfterEnd, TooLong, NoSpace, OutOfMemory}
@@ -15,6 +15,10 @@ refusal_number BytesAfterEnd = 21
 refusal_number TooLong = 22
 refusal_number NoSpace = 51
 refusal_number OutOfMemory = 100
+
+-- how a refusal is printed with its position: load, the number and the position
+abbrev pub error_text : RecipeError → List ℕ
+error_text e = codes "load " ++ (decimal (refusal_number e.refusal) ++ (codes " " ++ decimal e.position))
 
 -- want of memory, which is about no byte
 abbrev pub out_of_memory : RecipeError

@@ -43,20 +43,22 @@ Lies place (Unless w) = Unit {0}
 Lies place (Refine stage) = Unit {0}
 Lies place End = Unit {0}
 
--- what reading a name answers, told as a read of bytes
+-- what reading a part of a recipe answers, told as a read of bytes: its value as a command, and the number of its bytes
+abbrev pub told : {A : Type 0} → (A → Word) → (A → ℕ) → Result A Refusal → Read
+told command bytes (Ok a) = got (command a) (bytes a)
+told command bytes (Err e) = refused e
+
+-- where the answer is a name
 abbrev pub name_told : Result (Bor (List ℕ)) Refusal → Read
-name_told (Ok name) = got (wire name.now) (suc today.width)
-name_told (Err e) = refused e
+name_told = told (λ name. wire name.now) (λ _. suc today.width)
 
--- what reading a command of n bytes answers, told as a read of bytes
+-- where it is a command of n bytes
 abbrev pub command_told : ℕ → Result Command Refusal → Read
-command_told n (Ok c) = got (word c) n
-command_told n (Err e) = refused e
+command_told n = told word (λ _. n)
 
--- the same where the answer has the number of bytes
+-- where it is a command with the number of its bytes
 abbrev pub counted_told : Result (Command × ℕ) Refusal → Read
-counted_told (Ok p) = got (word p.0) p.1
-counted_told (Err e) = refused e
+counted_told = told (λ p. word p.0) (λ p. p.1)
 
 -- what one read of a recipe answers, told by the values of the operands
 abbrev pub words_told : Result Command RecipeError → Result Word RecipeError

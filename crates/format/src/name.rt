@@ -1,31 +1,15 @@
 // Names of wires.
 ghost use Rattle.std.specs.Prelude.{◌≡◌, ◌≤◌, length, nat_eq};
+ghost use Rattle.std.specs.List.{list_all};
 ghost use Rattle.format.specs.Commands.{today};
-ghost use Rattle.format.specs.Names.{capital, name_byte, all_bytes, spelled, well_formed, before_zero};
+ghost use Rattle.format.specs.Names.{name_byte, spelled, well_formed, before_zero};
 
 use crate::command::NAME_WIDTH;
-
-fn is_capital(byte: u8) -> bool
-    ensures { result ≡ capital byte }
-{
-    matches!(byte, b'A'..=b'Z')
-}
 
 fn is_name_byte(byte: u8) -> bool
     ensures { result ≡ name_byte byte }
 {
-    is_capital(byte) || matches!(byte, b'0'..=b'9' | b'-')
-}
-
-fn all_name_bytes(bytes: &[u8]) -> bool
-    ensures { result ≡ all_bytes name_byte bytes.now }
-{
-    for byte in bytes {
-        if !is_name_byte(*byte) {
-            return false;
-        }
-    }
-    true
+    byte.is_ascii_uppercase() || byte.is_ascii_digit() || byte == b'-'
 }
 
 // A capital letter, then capital letters, digits and hyphens.
@@ -34,7 +18,9 @@ pub(crate) fn is_spelled(name: &[u8]) -> bool
 {
     match name {
         [] => false,
-        [first, rest @ ..] => is_capital(*first) && all_name_bytes(rest),
+        [first, rest @ ..] => {
+            first.is_ascii_uppercase() && rest.iter().all(|&byte| is_name_byte(byte))
+        }
     }
 }
 
@@ -50,21 +36,14 @@ pub(crate) fn name_length(field: &[u8]) -> usize
     ensures value { result ≡ length (before_zero field.now) }
     ensures within { result ≤ length field.now }
 {
-    for (i, byte) in field.iter().enumerate() {
-        if *byte == 0 {
-            return i;
-        }
-    }
-    field.len()
+    field
+        .iter()
+        .position(|&byte| byte == 0)
+        .unwrap_or(field.len())
 }
 
 pub(crate) fn is_all_zero(bytes: &[u8]) -> bool
-    ensures { result ≡ all_bytes (λ b. nat_eq b 0) bytes.now }
+    ensures { result ≡ list_all (λ b. nat_eq b 0) bytes.now }
 {
-    for byte in bytes {
-        if *byte != 0 {
-            return false;
-        }
-    }
-    true
+    bytes.iter().all(|&byte| byte == 0)
 }

@@ -1,8 +1,7 @@
 // One command from the front of bytes.
 ghost use Rattle.std.specs.Prelude.{◌≡◌, suc, ◌<◌, ◌≤◌, length, IfOk};
-ghost use Rattle.signals.specs.Bytes.{number};
 ghost use Rattle.format.specs.Commands.{size, today};
-ghost use Rattle.format.specs.Reading.{got, operands_read, first_read};
+ghost use Rattle.format.specs.Reading.{got, operands_read, set_at, first_read};
 ghost use Rattle.format.specs.Values.{Lies, behind, rule_word, name_told, command_told, counted_told};
 ghost use Rattle.format.specs.declared.command.Opcode.TheVariants.{Wire};
 
@@ -12,14 +11,12 @@ use crate::refusal::Refusal;
 use rules::Rule;
 use signals::WireSet;
 
-// The wire set that eight bytes write.
+// The wire set that the first eight bytes write.
 fn wire_set(bytes: &[u8]) -> WireSet
-    requires { length bytes.now ≡ 8 }
-    ensures { result.bits ≡ number bytes.now }
+    requires { 8 ≤ length bytes.now }
+    ensures { result.bits ≡ set_at 0 bytes.now }
 {
-    WireSet::from_be_bytes([
-        bytes[0], bytes[1], bytes[2], bytes[3], bytes[4], bytes[5], bytes[6], bytes[7],
-    ])
+    WireSet::from_be_bytes(*bytes.first_chunk().unwrap())
 }
 
 // The name in the field at the front of `operands`.
@@ -28,9 +25,10 @@ fn wire_name(operands: &[u8]) -> Result<&[u8], Refusal>
     ensures value { name_told result ≡ operands_read today Wire operands.now }
     ensures place { IfOk result (λ name. name.ref_ptr ≡ operands.entry.ref_ptr) }
 {
-    let length = name::name_length(&operands[0..NAME_WIDTH]);
-    let name = &operands[0..length];
-    if name::is_spelled(name) && name::is_all_zero(&operands[length..NAME_WIDTH]) {
+    let field = &operands[..NAME_WIDTH];
+    let length = name::name_length(field);
+    let name = &field[..length];
+    if name::is_spelled(name) && name::is_all_zero(&field[length..]) {
         Ok(name)
     } else {
         Err(Refusal::MalformedName)
@@ -44,9 +42,9 @@ fn rule(operands: &[u8]) -> Rule
     Rule {
         from: operands[0],
         to: operands[1],
-        present: wire_set(&operands[2..10]),
-        absent: wire_set(&operands[10..18]),
-        emits: wire_set(&operands[18..26]),
+        present: wire_set(&operands[2..]),
+        absent: wire_set(&operands[10..]),
+        emits: wire_set(&operands[18..]),
     }
 }
 
@@ -66,7 +64,7 @@ fn command(opcode: Opcode, operands: &[u8]) -> Result<Command<'_>, Refusal>
         Opcode::Rule => Command::Rule(rule(operands)),
         Opcode::Par => Command::Par,
         Opcode::Hide => Command::Hide {
-            hidden: wire_set(&operands[0..8]),
+            hidden: wire_set(operands),
         },
         Opcode::Unless => Command::Unless { wire: operands[0] },
         Opcode::Refine => Command::Refine { stage: operands[0] },
@@ -89,7 +87,7 @@ pub(crate) fn first_command(bytes: &[u8]) -> Result<(Command<'_>, usize), Refusa
     let [byte, operands @ ..] = bytes else {
         return Err(Refusal::EndOfBytes);
     };
-    let opcode = Opcode::from_byte(*byte).ok_or(Refusal::UnknownCommand)?;
+    let opcode = Opcode::try_from(*byte)?;
     if operands.len() < opcode.operand_bytes() {
         return Err(Refusal::MissingOperands);
     }

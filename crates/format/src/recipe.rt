@@ -1,38 +1,29 @@
 // Whole recipes.
 ghost use Rattle.std.specs.Prelude.{◌≡◌, map, IfOk, None, MatchResult};
 ghost use Rattle.format.specs.Commands.{today};
-ghost use Rattle.format.specs.Reading.{is_end, read_all};
+ghost use Rattle.format.specs.Reading.{read_all};
 ghost use Rattle.format.specs.Recipes.{Whole};
 ghost use Rattle.format.specs.Values.{word, counted, NamesLie, RefusedBy};
 
 use crate::command::Command;
-use crate::reader::Reader;
+use crate::commands::Commands;
 use crate::refusal::RecipeError;
 use std::alloc::Global;
 
 // The most bytes that the file of a recipe may have.
 pub const MAX_RECIPE: usize = 16_384;
 
-fn ends(command: Command<'_>) -> bool
-    ensures { result ≡ is_end (word command.entry) }
-{
-    matches!(command, Command::End)
-}
-
 // How many commands a whole recipe has, END among them.
 pub fn count_commands(recipe: &[u8]) -> Result<usize, RecipeError>
     ensures value { result ≡ counted (read_all today recipe.now) }
     ensures law { Whole today recipe.now (read_all today recipe.now) }
 {
-    let mut reader = Reader::new(recipe);
     let mut count = 0;
-    loop {
-        let command = reader.read()?;
+    for command in Commands::new(recipe) {
+        command?;
         count += 1;
-        if ends(command) {
-            return Ok(count);
-        }
     }
+    Ok(count)
 }
 
 // The commands of a whole recipe, END last. A refusal is told whatever memory there is.
@@ -43,12 +34,8 @@ pub fn read_commands<'a>(heap: Global, recipe: &'a [u8]) -> Result<Vec<Command<'
 {
     let count = count_commands(recipe)?;
     let mut commands = Vec::with_capacity(heap, count)?;
-    let mut reader = Reader::new(recipe);
-    loop {
-        let command = reader.read()?;
-        commands.push(command)?;
-        if ends(command) {
-            return Ok(commands);
-        }
+    for command in Commands::new(recipe) {
+        commands.push(command?)?;
     }
+    Ok(commands)
 }

@@ -1,47 +1,49 @@
 // Why bytes are no recipe, or a command was not written.
-ghost use Rattle.std.specs.Prelude.{◌≡◌};
-ghost use Rattle.format.specs.Refusals.{refusal_number, out_of_memory};
+ghost use Rattle.std.specs.Prelude.{◌≡◌, Some, decimal};
+ghost use Rattle.format.specs.Refusals.{refusal_number, error_text, out_of_memory};
 
 use std::alloc::{AllocError, AllocFailed};
+use std::error::Error;
+use std::fmt;
 
 #[derive(Clone, Copy, PartialEq, Eq, Debug)]
 pub enum Refusal {
     // No byte is left where a command should begin.
-    EndOfBytes,
+    EndOfBytes = 1,
     // The byte begins no command.
-    UnknownCommand,
+    UnknownCommand = 2,
     // Bytes of the command's operands are missing.
-    MissingOperands,
+    MissingOperands = 3,
     // The name of a WIRE is not well formed.
-    MalformedName,
+    MalformedName = 5,
     // A RULE stands behind another command than MACHINE or RULE.
-    MisplacedRule,
+    MisplacedRule = 9,
     // A byte stands behind END.
-    BytesAfterEnd,
+    BytesAfterEnd = 21,
     // The file is longer than a recipe may be.
-    TooLong,
+    TooLong = 22,
     // The output has no space for what is to be written.
-    NoSpace,
+    NoSpace = 51,
     // Want of memory.
-    OutOfMemory,
+    OutOfMemory = 100,
 }
 
 impl Refusal {
-    // The number by which people know the refusal.
+    // The number by which people know the refusal. Each enum of refusals has such a call: a trait for all would ask each
+    // for its numbers again.
     pub fn number(self) -> u8
         ensures { result ≡ refusal_number self }
     {
-        match self {
-            Refusal::EndOfBytes => 1,
-            Refusal::UnknownCommand => 2,
-            Refusal::MissingOperands => 3,
-            Refusal::MalformedName => 5,
-            Refusal::MisplacedRule => 9,
-            Refusal::BytesAfterEnd => 21,
-            Refusal::TooLong => 22,
-            Refusal::NoSpace => 51,
-            Refusal::OutOfMemory => 100,
-        }
+        self as u8
+    }
+}
+
+// A refusal is printed as its number.
+impl fmt::Display for Refusal {
+    ghost output = { λ r. Some (decimal (refusal_number r)) };
+
+    fn fmt<W: fmt::Write>(&self, f: &mut fmt::Formatter<W>) -> fmt::Result {
+        write!(f, "{}", self.number())
     }
 }
 
@@ -60,6 +62,18 @@ impl RecipeError {
     };
 }
 
+// The word load, the refusal's number and the position.
+impl fmt::Display for RecipeError {
+    ghost output = { λ e. Some (error_text e) };
+
+    fn fmt<W: fmt::Write>(&self, f: &mut fmt::Formatter<W>) -> fmt::Result {
+        write!(f, "load {} {}", self.refusal, self.position)
+    }
+}
+
+impl Error for RecipeError {}
+
+// A collection fails with the one error where it is made and with the other where a value is added, so `?` needs both.
 impl From<AllocError> for RecipeError {
     ghost from_gives = { λ _ r. r ≡ out_of_memory };
 

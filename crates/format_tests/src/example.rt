@@ -3,15 +3,7 @@ use crate::reading::outcome;
 use format::{Refusal, Rule};
 use signals::WireSet;
 use std::test::*;
-use writing::writer::{Unwritten, Writer};
-
-// What a call of a writer answers, with the refusal alone where it is refused.
-fn done<N, W: Drop>(written: Result<N, Unwritten<W>>) -> Result<N, Refusal> {
-    match written {
-        Ok(next) => Ok(next),
-        Err(unwritten) => Err(unwritten.refusal),
-    }
-}
+use writing::writer::Writer;
 
 // A rule from state 0 to state 0.
 fn rule(present: u64, absent: u64, emits: u64) -> Rule {
@@ -25,18 +17,20 @@ fn rule(present: u64, absent: u64, emits: u64) -> Rule {
 }
 
 fn write_line(out: &mut [u8]) -> Result<usize, Refusal> {
-    let writer = Writer::new();
-    let writer = done(writer.wire(out, b"CAMERA"))?;
-    let writer = done(writer.wire(out, b"PP-BLACK"))?;
-    let writer = done(writer.wire(out, b"PP-BLACK-T20"))?;
-    let writer = done(writer.wire(out, b"VALVE-1"))?;
-    let writer = done(writer.wire(out, b"VALVE-2"))?;
-    let machine = done(writer.machine(out, 1))?;
-    let machine = done(machine.rule(out, rule(0b00011, 0b00100, 0b01000)))?;
-    let machine = done(machine.close().machine(out, 1))?;
-    let machine = done(machine.rule(out, rule(0b00101, 0, 0b10000)))?;
-    let writer = done(machine.close().par(out))?;
-    let finished = done(writer.end(out))?;
+    let finished = Writer::new()
+        .wire(out, b"CAMERA")?
+        .wire(out, b"PP-BLACK")?
+        .wire(out, b"PP-BLACK-T20")?
+        .wire(out, b"VALVE-1")?
+        .wire(out, b"VALVE-2")?
+        .machine(out, 1)?
+        .rule(out, rule(0b00011, 0b00100, 0b01000))?
+        .close()
+        .machine(out, 1)?
+        .rule(out, rule(0b00101, 0, 0b10000))?
+        .close()
+        .par(out)?
+        .end(out)?;
     Ok(finished.length())
 }
 

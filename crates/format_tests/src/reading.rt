@@ -1,15 +1,20 @@
 // Reading: each refusal at its position, at every boundary of the operands.
 use format::recipe::read_commands;
-use format::{Command, Reader};
+use format::{Command, Reader, RecipeError};
 use std::process::Abort;
 use std::test::*;
 
+// A refusal by its number and its position. The number, and not the case: it is what people know, and the tests are
+// to show it.
+pub(crate) fn numbered(error: RecipeError) -> (u8, usize) {
+    (error.refusal.number(), error.position)
+}
+
 // What reading a whole recipe answers: how many commands it has, or the refusal's number and position.
 pub(crate) fn outcome(rt: &impl AllocGlobal, recipe: &[u8]) -> Result<usize, (u8, usize)> {
-    match read_commands(rt.alloc(), recipe) {
-        Ok(commands) => Ok(commands.len()),
-        Err(error) => Err((error.refusal.number(), error.position)),
-    }
+    read_commands(rt.alloc(), recipe)
+        .map(|commands| commands.len())
+        .map_err(numbered)
 }
 
 #[test]
@@ -32,7 +37,8 @@ fn a_byte_behind_end_is_refused_at_end(rt: HostRuntime) -> Result<(), Fail> {
     Ok(())
 }
 
-// The first byte alone: PAR is a whole command and END a whole recipe, the other six lack operands, and no other byte begins a command.
+// The first byte alone: PAR is a whole command and END a whole recipe, the other six lack operands, and no other byte
+// begins a command.
 #[test]
 fn every_first_byte(rt: HostRuntime) -> Result<(), Fail> {
     for byte in 0..=255u8 {
@@ -103,49 +109,42 @@ fn a_rule_has_its_fields_in_order(rt: HostRuntime) -> Result<(), Fail> {
     let recipe =
         b"\x03\x01\x02\x11\x12\x13\x14\x15\x16\x17\x18\x21\x22\x23\x24\x25\x26\x27\x28\x31\x32\x33\x34\x35\x36\x37\x38";
     let mut reader = Reader::new(recipe);
-    match reader.read()? {
-        Command::Rule(rule) => {
-            assert_eq!(rt; rule.from, 1);
-            assert_eq!(rt; rule.to, 2);
-            assert_eq!(rt; rule.present.bits, 0x1112_1314_1516_1718);
-            assert_eq!(rt; rule.absent.bits, 0x2122_2324_2526_2728);
-            assert_eq!(rt; rule.emits.bits, 0x3132_3334_3536_3738);
-            Ok(())
-        }
-        _ => Err(Fail::new("no rule")),
-    }
+    let Command::Rule(rule) = reader.read()? else {
+        return Err(Fail::new("no rule"));
+    };
+    assert_eq!(rt; rule.from, 1);
+    assert_eq!(rt; rule.to, 2);
+    assert_eq!(rt; rule.present.bits, 0x1112_1314_1516_1718);
+    assert_eq!(rt; rule.absent.bits, 0x2122_2324_2526_2728);
+    assert_eq!(rt; rule.emits.bits, 0x3132_3334_3536_3738);
+    Ok(())
 }
 
 #[test]
 fn each_command_has_its_operands(rt: HostRuntime) -> Result<(), Fail> {
     let mut reader = Reader::new(b"\x02\x10\x04\x05\x80\0\0\0\0\0\0\x01\x06\x3f\x07\x05\x08");
-    assert!(rt; matches!(reader.read()?, Command::Machine { states: 16 }));
-    assert!(rt; matches!(reader.read()?, Command::Par));
-    match reader.read()? {
-        Command::Hide { hidden } => assert!(rt;
-            hidden.contains(63) && hidden.contains(0) && !hidden.contains(7)
-        ),
-        _ => return Err(Fail::new("no HIDE")),
-    }
-    assert!(rt; matches!(reader.read()?, Command::Unless { wire: 63 }));
-    assert!(rt; matches!(reader.read()?, Command::Refine { stage: 5 }));
+    assert_eq!(rt; reader.read()?, Command::Machine { states: 16 });
+    assert_eq!(rt; reader.read()?, Command::Par);
+    let Command::Hide { hidden } = reader.read()? else {
+        return Err(Fail::new("no HIDE"));
+    };
+    assert!(rt; hidden.contains(63) && hidden.contains(0) && !hidden.contains(7));
+    assert_eq!(rt; reader.read()?, Command::Unless { wire: 63 });
+    assert_eq!(rt; reader.read()?, Command::Refine { stage: 5 });
     assert_eq!(rt; reader.position(), 16);
-    assert!(rt; matches!(reader.read()?, Command::End));
+    assert_eq!(rt; reader.read()?, Command::End);
     Ok(())
 }
 
 // What a read answers if it is refused, by number and position.
 fn refusal(reader: &mut Reader<'_>) -> Option<(u8, usize)> {
-    match reader.read() {
-        Ok(_) => None,
-        Err(error) => Some((error.refusal.number(), error.position)),
-    }
+    reader.read().err().map(numbered)
 }
 
 #[test]
 fn a_refusal_leaves_the_reader_where_it_is(rt: HostRuntime) -> Result<(), Fail> {
     let mut reader = Reader::new(b"\x04\x09\x08");
-    assert!(rt; matches!(reader.read()?, Command::Par));
+    assert_eq!(rt; reader.read()?, Command::Par);
     assert_eq!(rt; refusal(&mut reader), Some((2, 1)));
     assert_eq!(rt; reader.position(), 1);
     assert_eq!(rt; refusal(&mut reader), Some((2, 1)));
@@ -155,8 +154,8 @@ fn a_refusal_leaves_the_reader_where_it_is(rt: HostRuntime) -> Result<(), Fail> 
 #[test]
 fn behind_end_no_byte_is_left(rt: HostRuntime) -> Result<(), Fail> {
     let mut reader = Reader::new(b"\x04\x08");
-    assert!(rt; matches!(reader.read()?, Command::Par));
-    assert!(rt; matches!(reader.read()?, Command::End));
+    assert_eq!(rt; reader.read()?, Command::Par);
+    assert_eq!(rt; reader.read()?, Command::End);
     assert_eq!(rt; refusal(&mut reader), Some((1, 2)));
     assert_eq!(rt; refusal(&mut reader), Some((1, 2)));
     Ok(())

@@ -1,24 +1,14 @@
 // Writing: the bytes of each command, the space that it takes, and what a refusal leaves.
+use crate::reading::numbered;
 use format::{Refusal, Rule};
 use signals::WireSet;
 use std::test::*;
 use writing::rewrite::rewrite;
 use writing::writer::{Unwritten, Writer};
 
-// The writer that goes on, or a failed test.
-fn wrote<W: Drop, X: Drop>(written: Result<W, Unwritten<X>>) -> Result<W, Fail> {
-    match written {
-        Ok(writer) => Ok(writer),
-        Err(_) => Err(Fail::new("the write was refused")),
-    }
-}
-
 // The refusal and the position of the writer that came back.
 fn refused<W: Drop>(written: Result<W, Unwritten<Writer>>) -> Option<(Refusal, usize)> {
-    match written {
-        Ok(_) => None,
-        Err(unwritten) => Some((unwritten.refusal, unwritten.writer.position())),
-    }
+    written.err().map(|unwritten| (unwritten.refusal, unwritten.writer.position()))
 }
 
 fn some_rule() -> Rule {
@@ -40,20 +30,20 @@ fn some_rule() -> Rule {
 #[test]
 fn a_recipe_byte_by_byte(rt: HostRuntime) -> Result<(), Fail> {
     let mut out = [0xeeu8; 74];
-    let writer = wrote(Writer::new().wire(&mut out, b"AB"))?;
-    let machine = wrote(writer.machine(&mut out, 3))?;
-    let writer = wrote(machine.rule(&mut out, some_rule()))?.close();
-    let writer = wrote(writer.par(&mut out))?;
-    let writer = wrote(writer.hide(
-        &mut out,
-        WireSet {
-            bits: 0x8000_0000_0000_0001,
-        },
-    ))?;
-    let writer = wrote(writer.unless(&mut out, 63))?;
-    let writer = wrote(writer.refine(&mut out, 5))?;
+    let hidden = WireSet {
+        bits: 0x8000_0000_0000_0001,
+    };
+    let writer = Writer::new()
+        .wire(&mut out, b"AB")?
+        .machine(&mut out, 3)?
+        .rule(&mut out, some_rule())?
+        .close()
+        .par(&mut out)?
+        .hide(&mut out, hidden)?
+        .unless(&mut out, 63)?
+        .refine(&mut out, 5)?;
     assert_eq!(rt; writer.position(), 68);
-    let finished = wrote(writer.end(&mut out))?;
+    let finished = writer.end(&mut out)?;
     assert_eq!(rt; finished.length(), 69);
     assert_eq!(rt;
         &out[0..],
@@ -123,7 +113,7 @@ fn space_of_the_others(rt: HostRuntime) -> Result<(), Fail> {
 #[test]
 fn a_refused_write_changes_nothing(rt: HostRuntime) -> Result<(), Fail> {
     let mut out = [0xeeu8; 3];
-    let writer = wrote(Writer::new().par(&mut out))?;
+    let writer = Writer::new().par(&mut out)?;
     assert_eq!(rt;
         refused(writer.wire(&mut out, b"a")),
         Some((Refusal::MalformedName, 1))
@@ -147,24 +137,19 @@ fn a_refused_write_changes_nothing(rt: HostRuntime) -> Result<(), Fail> {
 #[test]
 fn a_refused_rule_hands_back_the_writer_in_its_machine(rt: HostRuntime) -> Result<(), Fail> {
     let mut out = [0xeeu8; 28];
-    let machine = wrote(Writer::new().machine(&mut out, 1))?;
-    match machine.rule(&mut out, some_rule()) {
-        Ok(_) => Err(Fail::new("28 bytes were enough for MACHINE and RULE")),
-        Err(unwritten) => {
-            assert_eq!(rt; unwritten.refusal, Refusal::NoSpace);
-            assert_eq!(rt; unwritten.writer.close().position(), 2);
-            assert_eq!(rt; out[2], 0xee);
-            Ok(())
-        }
-    }
+    let machine = Writer::new().machine(&mut out, 1)?;
+    let Err(unwritten) = machine.rule(&mut out, some_rule()) else {
+        return Err(Fail::new("28 bytes were enough for MACHINE and RULE"));
+    };
+    assert_eq!(rt; unwritten.refusal, Refusal::NoSpace);
+    assert_eq!(rt; unwritten.writer.close().position(), 2);
+    assert_eq!(rt; out[2], 0xee);
+    Ok(())
 }
 
 // What rewriting answers, by length or by number and position.
 fn rewritten(recipe: &[u8], out: &mut [u8]) -> Result<usize, (u8, usize)> {
-    match rewrite(recipe, out) {
-        Ok(length) => Ok(length),
-        Err(error) => Err((error.refusal.number(), error.position)),
-    }
+    rewrite(recipe, out).map_err(numbered)
 }
 
 #[test]
@@ -180,7 +165,8 @@ fn rewriting_gives_the_same_bytes(rt: HostRuntime) -> Result<(), Fail> {
     Ok(())
 }
 
-// A RULE behind anything but MACHINE and RULE is refused at its own position, before what comes behind it and before want of space.
+// A RULE behind anything but MACHINE and RULE is refused at its own position, before what comes behind it and before
+// want of space.
 #[test]
 fn a_rule_elsewhere_is_refused(rt: HostRuntime) -> Result<(), Fail> {
     let mut out = [0xeeu8; 4];

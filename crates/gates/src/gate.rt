@@ -1,4 +1,5 @@
-// A part that refuses: it shows that anything that keeps the interface's laws is a part, and what becomes of its faults.
+// A part that refuses: it shows that anything that keeps the interface's laws is a part, and what becomes of its
+// faults.
 ghost use Rattle.parts.specs.Trees.{part};
 ghost use Rattle.gates.specs.Gates.{gate_course};
 ghost use Rattle.gates.specs.GatePartLemmas;
@@ -38,14 +39,14 @@ impl Part for Gate {
     }
 
     fn wires_emitted(&self) -> WireSet {
-        WireSet { bits: 0 }
+        WireSet::EMPTY
     }
 
     fn look(&self, input: WireSet) -> Result<WireSet, Fault> {
         if input.contains(0) {
             return Err(self.fault);
         }
-        Ok(WireSet { bits: 0 })
+        Ok(WireSet::EMPTY)
     }
 
     fn step(&mut self, input: WireSet) -> Result<WireSet, Fault> {

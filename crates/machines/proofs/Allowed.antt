@@ -1,48 +1,14 @@
 -- What is asked of rules, one after the other. Assumes nothing.
-use Rattle.std.proofs.Common.{◌≡◌, ℕ, zero, suc, ◌+◌, ◌<◌, ◌≤◌, Bool, true, false, cond, ◌&&◌, leb, List, [], ◌∷◌, ◌++◌, length, get_or, take, drop, Ok, Err, Result, sym, refl, ap, ◌∙◌, subst, append_assoc, append-nil, arith}
-use Rattle.std.proofs.lemmas.List.{at_drop_more, at_drop_all, take_more, length-take-le, length_push}
+use Rattle.std.proofs.Common.{◌≡◌, ℕ, zero, suc, ◌+◌, ◌<◌, Bool, true, false, cond, ◌&&◌, leb, List, [], ◌∷◌, ◌++◌, length, get_or, take, Ok, Err, Result, sym, refl, ap, ◌∙◌, subst, append_assoc, append-nil, arith}
+use Rattle.std.proofs.lemmas.List.{length_push}
 use Rattle.std.proofs.lemmas.Bool.{true≢false, and_parts, and_from, leb-true, le-leb}
 use Rattle.rules.specs.declared.rule.Rule.{Rule}
 use Rattle.machines.specs.declared.refusal.RuleRefusal.{RuleRefusal}
 use Rattle.machines.specs.declared.refusal.MachineRefusal.{MachineRefusal}
 use Rattle.machines.specs.declared.refusal.MachineRefusal.TheVariants.{States, OfRule}
-use Rattle.rules.specs.Rules.{accord}
-use Rattle.machines.specs.Questions.{accords_all, rule_question, if_allowed, rules_question, machine_question, ToldFirst}
-
--- ---- accord with the rules from the i-th on, if those before it are in accord
-module _ (earlier : List Rule) (r : Rule) (i : ℕ) (h : accords_all (drop i earlier) r ≡ accords_all earlier r) where
-  pub accords_more : (d : Rule) → i < length earlier → accord (get_or earlier i d) r ≡ true → accords_all (drop (i + 1) earlier) r ≡ accords_all earlier r
-  accords_more d l a = sym (at_drop_more (λ rs. accords_all rs r) earlier i d l ∙ ap (λ t. t && accords_all (drop (i + 1) earlier) r) a) ∙ h
-
-  pub accords_fails : (d : Rule) → i < length earlier → accord (get_or earlier i d) r ≡ false → false ≡ accords_all earlier r
-  accords_fails d l a = sym (at_drop_more (λ rs. accords_all rs r) earlier i d l ∙ ap (λ t. t && accords_all (drop (i + 1) earlier) r) a) ∙ h
-
-  pub accords_passed : length earlier ≤ i → true ≡ accords_all earlier r
-  accords_passed l = sym (at_drop_all (λ rs. accords_all rs r) earlier i l) ∙ h
-
--- ---- the rules from the i-th on, if those before it are allowed
-module _ (states : ℕ) (rules : List Rule) (i : ℕ) (h : rules_question states (take i rules) (drop i rules) ≡ rules_question states [] rules) where
-  -- the i-th is asked next
-  next_asked : (d : Rule) → i < length rules → if_allowed i (rule_question states (take i rules) (get_or rules i d)) (rules_question states (take (i + 1) rules) (drop (i + 1) rules)) ≡ rules_question states [] rules
-  next_asked d l =
-      let short : length (take i rules) ≡ i = length-take-le i rules (omega arith) in
-      (λ j. if_allowed (sym short j) (rule_question states (take i rules) (get_or rules i d)) (rules_question states (take_more rules i d l j) (drop (i + 1) rules)))
-      ∙ sym (at_drop_more (rules_question states (take i rules)) rules i d l)
-      ∙ h
-
-  pub rules_more : (d : Rule) (u : Unit {0}) → i < length rules → Ok u ≡ rule_question states (take i rules) (get_or rules i d) → rules_question states (take (i + 1) rules) (drop (i + 1) rules) ≡ rules_question states [] rules
-  rules_more d u l e = ap (λ q. if_allowed i q (rules_question states (take (i + 1) rules) (drop (i + 1) rules))) e ∙ next_asked d l
-
-  pub rules_refused : (d : Rule) (e : RuleRefusal) → i < length rules → Err e ≡ rule_question states (take i rules) (get_or rules i d) → Err (OfRule i e) ≡ rules_question states [] rules
-  rules_refused d e l q = ap (λ a. if_allowed i a (rules_question states (take (i + 1) rules) (drop (i + 1) rules))) q ∙ next_asked d l
-
-  pub rules_passed : length rules ≤ i → Ok tt ≡ rules_question states [] rules
-  rules_passed l = sym (at_drop_all (rules_question states (take i rules)) rules i l) ∙ h
+use Rattle.machines.specs.Questions.{rule_question, if_allowed, rules_question, machine_question, ToldFirst}
 
 -- ---- the rule that is refused is the first one
-pub err_not : {E : Type 0} (r : Result (Unit {0}) E) (e : E) → r ≡ Err e → r ≡ Ok tt → ⊥
-err_not r e p q = let z : ◌≡◌ {A = ℕ} 0 1 = cc in omega arith
-
 -- so many rules behind the earlier ones
 record RefusedAt (states : ℕ) (earlier rs : List Rule) (place : ℕ) (e : RuleRefusal) : Type 0 where
   at : ℕ
@@ -77,19 +43,16 @@ refused_step states earlier r rs place e (Err f) p k others =
     }
 
 refused_at : (states : ℕ) (earlier rs : List Rule) (place : ℕ) (e : RuleRefusal) → rules_question states earlier rs ≡ Err (OfRule place e) → RefusedAt states earlier rs place e
-refused_at states earlier [] place e h = absurd (err_not (rules_question states earlier []) (OfRule place e) h refl)
+refused_at states earlier [] place e h = cc
 refused_at states earlier (r ∷ rs) place e h = refused_step states earlier r rs place e (rule_question states earlier r) refl h (refused_at states (earlier ++ r ∷ []) rs place e)
 
 -- no rule is refused for the states
-of_rule : (r : Result (Unit {0}) MachineRefusal) (place : ℕ) (f : RuleRefusal) → r ≡ Err (OfRule place f) → r ≡ Err States → ⊥
-of_rule r place f p q = let z : ◌≡◌ {A = ℕ} 0 1 = cc in omega arith
-
 not_states_step : (n : ℕ) (q : Result (Unit {0}) RuleRefusal) (others : Result (Unit {0}) MachineRefusal) → (others ≡ Err States → ⊥) → if_allowed n q others ≡ Err States → ⊥
 not_states_step n (Ok u) others never h = never h
-not_states_step n (Err f) others never h = of_rule _ n f refl h
+not_states_step n (Err f) others never h = cc
 
 not_states : (states : ℕ) (earlier rs : List Rule) → rules_question states earlier rs ≡ Err States → ⊥
-not_states states earlier [] h = err_not (rules_question states earlier []) States h refl
+not_states states earlier [] h = cc
 not_states states earlier (r ∷ rs) h = not_states_step (length earlier) (rule_question states earlier r) (rules_question states (earlier ++ r ∷ []) rs) (not_states states (earlier ++ r ∷ []) rs) h
 
 told_of : (states : ℕ) (rules : List Rule) (e : MachineRefusal) (b : Bool) → (leb 1 states && leb states 16) ≡ b → cond b (rules_question states [] rules) (Err States) ≡ Err e → ToldFirst states rules e
@@ -106,7 +69,7 @@ told_of states rules (OfRule place e) true b h =
       here = λ d. ap (λ n. rule_question states (take n rules) (get_or rules n d)) (sym same) ∙ m.here d;
     }
 told_of states rules States false b h = λ lo hi. true≢false (sym (and_from (leb 1 states) (leb states 16) (le-leb 1 states lo) (le-leb states 16 hi)) ∙ b)
-told_of states rules (OfRule place e) false b h = absurd (of_rule _ place e h refl)
+told_of states rules (OfRule place e) false b h = cc
 
 pub told_first : (states : ℕ) (rules : List Rule) (e : MachineRefusal) → Err e ≡ machine_question states rules → ToldFirst states rules e
 told_first states rules e h = told_of states rules e (leb 1 states && leb states 16) refl (sym h)

@@ -1,5 +1,5 @@
 -- The rules of a machine allow exactly one move, and the questions accept exactly the proper machines. Assumes nothing.
-use Rattle.std.proofs.Common.{◌≡◌, ℕ, ◌<◌, ◌≤◌, Bool, true, false, cond, ◌&&◌, ltb, leb, List, [], ◌∷◌, ◌++◌, length, take, is_ok, Ok, Err, Decides, Result, sym, refl, ap, ◌∙◌, subst, inl, inr, ⊎_elim, append_assoc, append-nil, arith}
+use Rattle.std.proofs.Common.{◌≡◌, ℕ, ◌<◌, ◌≤◌, Bool, true, false, cond, ◌&&◌, ltb, leb, List, [], ◌∷◌, ◌++◌, length, is_ok, Ok, Err, Result, sym, refl, ap, ◌∙◌, subst, inl, inr, ⊎_elim, append_assoc, append-nil, arith}
 use Rattle.std.proofs.lemmas.Bool.{true≢false, cond-true, cond-false, cases_Bool, and_parts, and_from, leb-true, le-leb, ltb-true, lt-ltb, eqb-true}
 use Rattle.std.proofs.lemmas.List.{length-append, length_push}
 use Rattle.signals.specs.Sets.{disjoint}
@@ -10,14 +10,12 @@ use Rattle.parts.specs.Searching.{in_append, append_in}
 use Rattle.rules.specs.declared.rule.Rule.{Rule}
 use Rattle.machines.specs.declared.refusal.RuleRefusal.{RuleRefusal}
 use Rattle.machines.specs.declared.refusal.MachineRefusal.{MachineRefusal}
-use Rattle.machines.specs.declared.refusal.MachineRefusal.TheVariants.{OfRule}
 use Rattle.rules.specs.Rules.{fires, within, accord, Accord}
 use Rattle.machines.specs.Reactions.{rule_move, reaction, Allows, Determined, KeepsStates}
 use Rattle.machines.specs.Questions.{accords_all, rule_question, if_allowed, rules_question, machine_question, WellFormed, Proper}
 use Rattle.machines.specs.declared.machine.Machine.{Machine}
-use Rattle.machines.specs.Made.{machine_made, made_of, machine_making}
+use Rattle.machines.specs.Made.{machine_made}
 use Rattle.rules.proofs.Matching.{fires_from, accord_facts}
-use Rattle.machines.proofs.Allowed.{err_not}
 
 -- ---- exactly one move
 -- the reaction is a move that the rules allow
@@ -48,11 +46,11 @@ determined rules h state x = (allowed rules state x, λ m a. only_one rules h st
 -- each is answered with yes
 asked : {E : Type 0} (b : Bool) (q : Result (Unit {0}) E) (e : E) → cond b q (Err e) ≡ Ok tt → (b ≡ true) × (q ≡ Ok tt)
 asked true q e h = (refl, h)
-asked false q e h = absurd (err_not _ e refl h)
+asked false q e h = cc
 
 allowed_rule : (n : ℕ) (q : Result (Unit {0}) RuleRefusal) (others : Result (Unit {0}) MachineRefusal) → if_allowed n q others ≡ Ok tt → (q ≡ Ok tt) × (others ≡ Ok tt)
 allowed_rule n (Ok u) others h = (refl, h)
-allowed_rule n (Err e) others h = absurd (err_not _ (OfRule n e) refl h)
+allowed_rule n (Err e) others h = cc
 
 accords_each : (earlier : List Rule) (r : Rule) → accords_all earlier r ≡ true → (e : Rule) → In e earlier → Accord e r
 accords_each [] r h e i = absurd i
@@ -140,29 +138,14 @@ keeps_states states rules p = record {
 pub told_state : (states : ℕ) (rules : List Rule) (state x : ℕ) (m : Move) → Proper states rules → state < states → m ≡ reaction rules state x → m.1 < states
 told_state states rules state x m p h e = subst (λ v. v.1 < states) (sym e) ((keeps_states states rules p).inside state x h)
 
--- ---- what a making has to show
-pub refused_facts : (states : ℕ) (rules : List Rule) (e : MachineRefusal) → Err e ≡ machine_question states rules → (Err e ≡ machine_making states rules) × Decides false (Proper states rules)
-refused_facts states rules e h = (
-  ap (λ q. made_of q states rules) h,
-  ((λ t. absurd (true≢false (sym t))), λ p. absurd (err_not (machine_question states rules) e (sym h) (proper_question states rules p))),
-)
-
-pub made_facts : (states : ℕ) (rules : List Rule) (u : Unit {0}) → Ok u ≡ machine_question states rules → (Ok (states, rules, 0) ≡ machine_making states rules) × Decides true (Proper states rules) × Determined rules × KeepsStates states rules
-made_facts states rules u h =
-    let p = question_proper states rules (sym h) in
-    (ap (λ q. made_of q states rules) h, ((λ _. p), λ _. refl), determined rules p.in_accord, keeps_states states rules p)
-
--- what the type of machines keeps, and what it tells
-pub question_kept : (states n : ℕ) (rules kept : List Rule) (u : Unit {0}) → Ok u ≡ machine_question states rules → take n kept ≡ rules → is_ok (machine_question states (take n kept)) ≡ true
-question_kept states n rules kept u h e = ap (λ rs. is_ok (machine_question states rs)) e ∙ ap is_ok (sym h)
-
+-- what the type of machines keeps says that they are proper
 pub kept_proper : (states : ℕ) (rules : List Rule) → is_ok (machine_question states rules) ≡ true → Proper states rules
 kept_proper states rules h = question_proper states rules (from_ok (machine_question states rules) h)
   where
     from_ok : {E : Type 0} (q : Result (Unit {0}) E) → is_ok q ≡ true → q ≡ Ok tt
     from_ok (Ok u) h = refl
-    from_ok (Err e) h = absurd (true≢false (sym h))
+    from_ok (Err e) h = cc
 
 pub made_ok : (r : Result Machine MachineRefusal) (m : ℕ × List Rule × ℕ) → machine_made r ≡ Ok m → is_ok r ≡ true
 made_ok (Ok s) m h = refl
-made_ok (Err e) m h = let z : ◌≡◌ {A = ℕ} 0 1 = cc in absurd (let no : ⊥ = omega arith in no)
+made_ok (Err e) m h = cc

@@ -1,32 +1,28 @@
--- How rules react, one after the other. Assumes nothing.
-use Rattle.std.proofs.Common.{◌≡◌, ℕ, ◌+◌, ◌<◌, ◌≤◌, true, false, List, length, get_or, drop, sym, ap, ◌∙◌}
+-- How rules react, and the wires of all of them, by what an iterator over them finds. Assumes nothing.
+use Rattle.std.proofs.Common.{◌≡◌, ℕ, List, [], ◌∷◌, Some, None, Option, sym, refl, ◌∙◌, arith}
+use Rattle.std.specs.List.{find, fold}
 use lib.Bits.{or_zero_r}
-use Rattle.std.proofs.lemmas.Bool.{cond-true, cond-false}
-use Rattle.std.proofs.lemmas.List.{at_drop_more, at_drop_all}
+use Rattle.signals.specs.declared.wire_set.WireSet.{WireSet}
 use Rattle.signals.specs.Sets.{union}
 use Rattle.signals.proofs.Wires.{union_assoc}
 use Rattle.rules.specs.declared.rule.Rule.{Rule}
 use Rattle.rules.specs.Rules.{fires}
+use Rattle.parts.specs.Operators.{Move}
 use Rattle.machines.specs.Reactions.{rule_move, staying, reaction, united}
 
--- ---- the first that fires: those behind the i-th rule react as all do, if none before it fires
-module _ (rules : List Rule) (state x i : ℕ) (h : reaction (drop i rules) state x ≡ reaction rules state x) where
-  pub react_more : (d : Rule) → i < length rules → fires (get_or rules i d) state x ≡ false → reaction (drop (i + 1) rules) state x ≡ reaction rules state x
-  react_more d l f = sym (at_drop_more (λ rs. reaction rs state x) rules i d l ∙ cond-false _ _ _ f) ∙ h
+-- ---- the move of the first rule that fires, and staying where none does
+abbrev pub move_of_found : ℕ → Option Rule → Move
+move_of_found state None = staying state
+move_of_found state (Some r) = rule_move r
 
-  pub react_found : (d : Rule) → i < length rules → fires (get_or rules i d) state x ≡ true → rule_move (get_or rules i d) ≡ reaction rules state x
-  react_found d l f = sym (at_drop_more (λ rs. reaction rs state x) rules i d l ∙ cond-true _ _ _ f) ∙ h
+pub reaction-found : (rules : List Rule) (state x : ℕ) → move_of_found state (find (λ r. fires r state x) rules) ≡ reaction rules state x
+reaction-found [] state x = refl
+reaction-found (r ∷ rs) state x = grind (arith, reaction-found rs state x)
 
-  pub react_none : length rules ≤ i → staying state ≡ reaction rules state x
-  react_none l = sym (at_drop_all (λ rs. reaction rs state x) rules i l) ∙ h
+-- ---- the wires of all rules: the wires of each are added to those of the rules before it
+abbrev pub with_wires : (Rule → ℕ) → WireSet → Rule → WireSet
+with_wires wires w r = record { bits = union w.bits (wires r) }
 
--- ---- the wires of all rules: those found so far, and those behind
-module _ (wires : Rule → ℕ) (rules : List Rule) (found i : ℕ) (h : union found (united wires (drop i rules)) ≡ united wires rules) where
-  pub united_more : (d : Rule) → i < length rules → union (union found (wires (get_or rules i d))) (united wires (drop (i + 1) rules)) ≡ united wires rules
-  united_more d l =
-      union_assoc found (wires (get_or rules i d)) (united wires (drop (i + 1) rules))
-      ∙ ap (union found) (sym (at_drop_more (united wires) rules i d l))
-      ∙ h
-
-  pub united_all : length rules ≤ i → found ≡ united wires rules
-  united_all l = sym (or_zero_r found) ∙ ap (union found) (sym (at_drop_all (united wires) rules i l)) ∙ h
+pub bits-fold : (wires : Rule → ℕ) (found : WireSet) (rules : List Rule) → (fold (with_wires wires) found rules).bits ≡ union found.bits (united wires rules)
+bits-fold wires found [] = sym (or_zero_r found.bits)
+bits-fold wires found (r ∷ rs) = bits-fold wires (with_wires wires found r) rs ∙ union_assoc found.bits (wires r) (united wires rs)

@@ -8,15 +8,22 @@ use Rattle.parts.specs.Courses.{Lawful, Unread, Named}
 use Rattle.parts.specs.Operators.{fired}
 use Rattle.parts.specs.Stages.{Stays}
 use Rattle.parts.specs.Running.{run_lawful}
-use Rattle.parts.specs.Searching.{ok_same}
-use Rattle.parts.proofs.Staging.{run_stays}
+use Rattle.parts.proofs.Staging.{outputs_lawful, outputs_unread, run_stays}
 use Rattle.rules.specs.declared.rule.Rule.{Rule}
 use Rattle.rules.specs.Rules.{granted, fires}
 use Rattle.machines.specs.Reactions.{rule_move, reaction, rule_reads, read_by_rules, emitted_by_rules}
 use Rattle.machines.specs.Machines.{machine_move, machine_next, machine_moves, machine_course, NeverRefuses}
 
+-- what holds in every state holds in the present one and behind a restart
+pub now_and_fresh : {P : ℕ → Type 0} → ((state : ℕ) → P state) → (state : ℕ) → P state × P 0
+now_and_fresh every state = (every state, every 0)
+
+-- ---- what follows a refused input is answered as if that had not been put
 pub machine_lawful : (rules : List Rule) (state : ℕ) → Lawful (machine_moves rules state)
 machine_lawful rules = run_lawful (machine_move rules) (machine_next rules)
+
+pub outputs_are_lawful : (rules : List Rule) (state : ℕ) → Lawful (machine_course rules state)
+outputs_are_lawful rules state = outputs_lawful (machine_moves rules state) (machine_lawful rules state)
 
 -- ---- no input is refused
 pub never_refuses : (rules : List Rule) → NeverRefuses rules
@@ -27,13 +34,12 @@ never_refuses rules state (y ∷ ys) x = never_refuses rules (machine_next rules
 rests : (rules : List Rule) (state x : ℕ) → fired (reaction rules state x) ≡ false → (reaction rules state x).1 ≡ state
 rests [] state x f = refl
 rests (r ∷ rs) state x f =
-    cond_both (fires r state x) (rule_move r) (reaction rs state x) (λ m. fired m ≡ false → m.1 ≡ state) (λ _ t. absurd (true≢false t)) (λ _. rests rs state x) f
+    cond_both (fires r state x) (rule_move r) (reaction rs state x) (λ m. fired m ≡ false → m.1 ≡ state) (λ _ t. cc) (λ _. rests rs state x) f
 
 pub machine_stays : (rules : List Rule) (state : ℕ) → Stays state (machine_moves rules state)
 machine_stays rules =
-    λ state. run_stays (machine_move rules) (machine_next rules) (λ s. s) (λ s. Unit {0}) (λ s h x m e. tt)
-    (λ s h x m e. ap (λ v. v.1) (ok_same (machine_move rules s x) (reaction rules s x) m refl e))
-    (λ s h x m e f. let same = ok_same (machine_move rules s x) (reaction rules s x) m refl e in sym (ap (λ v. v.1) same) ∙ rests rules s x (ap fired same ∙ f)) state tt
+    λ state. run_stays (machine_move rules) (machine_next rules) (λ s. s) (λ s. Unit {0}) (λ s h x m e. tt) (λ s h x m e. cc)
+    (λ s h x m e f. let same : reaction rules s x ≡ m = cc in subst (λ v. v.1 ≡ s) same (rests rules s x (ap fired same ∙ f))) state tt
 
 -- ---- wires that no rule asks for or forbids
 module _ (reads x y : ℕ) (e : intersection x reads ≡ intersection y reads) where
@@ -69,6 +75,9 @@ module _ (rules : List Rule) where
       ap (λ m. machine_moves rules m.1 us x) (same_reaction state u v r.0)
       ∙ machine_unread (machine_next rules state v) us vs x y r.1 e
 
+  pub outputs_are_unread : (state : ℕ) → Unread (read_by_rules rules) (machine_course rules state)
+  outputs_are_unread state = outputs_unread (read_by_rules rules) (machine_moves rules state) (machine_unread state)
+
 -- ---- no wire is emitted but those of the rules
 emits_within : (rules : List Rule) (state x : ℕ) → Within (reaction rules state x).0 (emitted_by_rules rules)
 emits_within [] state x = λ w h. absurd (true≢false (sym h ∙ none_empty w))
@@ -79,5 +88,6 @@ emits_within (r ∷ rs) state x =
 
 pub machine_named : (rules : List Rule) (state : ℕ) → Named (emitted_by_rules rules) (machine_course rules state)
 machine_named rules state [] x o e =
-    subst (λ v. subset v (emitted_by_rules rules) ≡ true) (ok_same (machine_course rules state [] x) (reaction rules state x).0 o refl e) ((subset_wires (reaction rules state x).0 (emitted_by_rules rules)).1 (emits_within rules state x))
+    let same : (reaction rules state x).0 ≡ o = cc in
+    subst (λ v. subset v (emitted_by_rules rules) ≡ true) same ((subset_wires (reaction rules state x).0 (emitted_by_rules rules)).1 (emits_within rules state x))
 machine_named rules state (y ∷ ys) x o e = machine_named rules (machine_next rules state y) ys x o e

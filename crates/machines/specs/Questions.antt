@@ -1,5 +1,6 @@
 -- What is asked of a machine that stands alone. Assumes nothing: these are definitions.
 use Rattle.std.specs.Prelude.{◌≡◌, ℕ, ◌<◌, ◌≤◌, Bool, true, false, cond, ◌&&◌, List, [], ◌∷◌, ◌++◌, length, take, Ok, Err, Result, nat_le, nat_lt, slice_index_or}
+use Rattle.std.specs.List.{list_all}
 use Rattle.signals.specs.Sets.{has, disjoint}
 use Rattle.parts.specs.Lists.{In}
 use Rattle.rules.specs.declared.rule.Rule.{Rule}
@@ -12,8 +13,7 @@ use Rattle.rules.specs.Rules.{within, accord, Accord}
 -- ---- one rule, with those written before it
 -- in accord with each earlier rule
 abbrev pub accords_all : List Rule → Rule → Bool
-accords_all [] r = true
-accords_all (e ∷ earlier) r = accord e r && accords_all earlier r
+accords_all earlier r = list_all (λ e. accord e r) earlier
 
 abbrev pub rule_question : ℕ → List Rule → Rule → Result (Unit {0}) RuleRefusal
 rule_question states earlier r = cond (within states r) (cond (disjoint r.present.bits r.absent.bits) (cond (nat_lt (length earlier) 16) (cond (accords_all earlier r) (Ok tt) (Err Discord)) (Err TooMany)) (Err PresentAndAbsent)) (Err NoSuchState)

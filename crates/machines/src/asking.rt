@@ -1,4 +1,5 @@
-// What is asked of a machine that stands alone.
+// What is asked of a machine that stands alone. States and rules are handed on as they came: what holds both is the
+// machine, which is not made yet.
 ghost use Rattle.std.specs.Prelude.{◌≡◌, []};
 ghost use Rattle.machines.specs.Questions.{accords_all, rule_question, rules_question, machine_question};
 
@@ -14,12 +15,7 @@ pub const MAX_RULES: usize = 16;
 pub fn accords_with_all(earlier: &[Rule], rule: &Rule) -> bool
     ensures { result ≡ accords_all earlier.now rule.now }
 {
-    for other in earlier {
-        if !other.accords(rule) {
-            return false;
-        }
-    }
-    true
+    earlier.iter().all(|other| other.accords(rule))
 }
 
 // What is asked of a rule, with those written before it.
@@ -45,10 +41,12 @@ fn check_rule(states: u8, earlier: &[Rule], rule: &Rule) -> Result<(), RuleRefus
 fn check_rules(states: u8, rules: &[Rule]) -> Result<(), MachineRefusal>
     ensures { result ≡ rules_question states [] rules.now }
 {
+    // with the index, which the refusal tells and which says what rules are earlier
     for (i, rule) in rules.iter().enumerate() {
-        if let Err(refusal) = check_rule(states, &rules[..i], rule) {
-            return Err(MachineRefusal::OfRule { rule: i, refusal });
-        }
+        check_rule(states, &rules[..i], rule).map_err(|refusal| MachineRefusal::OfRule {
+            rule: i,
+            refusal,
+        })?;
     }
     Ok(())
 }

@@ -3,7 +3,6 @@
 
 pub mod asking;
 pub mod machine;
-pub mod machine_part;
 pub mod reacting;
 pub mod refusal;
 

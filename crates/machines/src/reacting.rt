@@ -1,4 +1,5 @@
-// How rules react: for machines that stand alone, and for those of recipes.
+// How rules react: for machines that stand alone, and for those of recipes, which hold their rules in other ways. So
+// rules and a state are handed in, and no machine.
 ghost use Rattle.std.specs.Prelude.{◌≡◌};
 ghost use Rattle.parts.specs.Stages.{as_move};
 ghost use Rattle.machines.specs.Reactions.{reaction, read_by_rules, emitted_by_rules};
@@ -11,32 +12,26 @@ use signals::WireSet;
 pub fn react(rules: &[Rule], state: u8, input: WireSet) -> (WireSet, u8, bool)
     ensures { as_move result ≡ reaction rules.now state input.bits }
 {
-    for rule in rules {
-        if rule.fires(state, input) {
-            return (rule.emits, rule.to, true);
-        }
+    match rules.iter().find(|rule| rule.fires(state, input)) {
+        Some(rule) => (rule.emits, rule.to, true),
+        None => (WireSet::EMPTY, state, false),
     }
-    (WireSet { bits: 0 }, state, false)
 }
 
 // The wires that the rules ask for or forbid.
 pub fn rules_read(rules: &[Rule]) -> WireSet
     ensures { result.bits ≡ read_by_rules rules.now }
 {
-    let mut wires = WireSet { bits: 0 };
-    for rule in rules {
-        wires = wires.union(rule.present.union(rule.absent));
-    }
-    wires
+    rules.iter().fold(WireSet::EMPTY, |wires, rule| {
+        wires.union(rule.present.union(rule.absent))
+    })
 }
 
 // The wires that the rules emit.
 pub fn rules_emit(rules: &[Rule]) -> WireSet
     ensures { result.bits ≡ emitted_by_rules rules.now }
 {
-    let mut wires = WireSet { bits: 0 };
-    for rule in rules {
-        wires = wires.union(rule.emits);
-    }
-    wires
+    rules
+        .iter()
+        .fold(WireSet::EMPTY, |wires, rule| wires.union(rule.emits))
 }

@@ -6,13 +6,13 @@ ghost use Rattle.machines.specs.Refusals.{rule_refusal_number, machine_refusal_n
 #[derive(Clone, Copy, PartialEq, Eq, Debug)]
 pub enum RuleRefusal {
     // From or to is not below the number of states.
-    NoSuchState,
+    NoSuchState = 10,
     // A wire is both present and absent.
-    PresentAndAbsent,
+    PresentAndAbsent = 12,
     // 16 rules stand before it.
-    TooMany,
+    TooMany = 13,
     // An earlier rule of the state can fire with it, and leads elsewhere or emits something else.
-    Discord,
+    Discord = 14,
 }
 
 // Why there is no such machine.
@@ -25,16 +25,12 @@ pub enum MachineRefusal {
 }
 
 impl RuleRefusal {
-    // The number by which people know the refusal.
+    // The number by which people know the refusal. Each enum of refusals has such a call: a trait for all would ask each
+    // for its numbers again.
     pub fn number(self) -> u8
         ensures { result ≡ rule_refusal_number self }
     {
-        match self {
-            RuleRefusal::NoSuchState => 10,
-            RuleRefusal::PresentAndAbsent => 12,
-            RuleRefusal::TooMany => 13,
-            RuleRefusal::Discord => 14,
-        }
+        self as u8
     }
 }
 
@@ -43,6 +39,7 @@ impl MachineRefusal {
     pub fn number(self) -> u8
         ensures { result ≡ machine_refusal_number self }
     {
+        // by a match, since a case with data has no number of its own
         match self {
             MachineRefusal::States => 7,
             MachineRefusal::OfRule { refusal, .. } => refusal.number(),

@@ -58,6 +58,7 @@ fn calls_go_on(rt: HostRuntime) -> Result<(), Fail> {
 fn too_few_places(rt: HostRuntime) -> Result<(), Fail> {
     let mut machine = bit()?;
     let mut replies = [Reply::Restarted; 1];
+    // the numbers, and not `SHORT_LIST`: the test is to show them
     let short = Fault {
         cause: 34,
         place: 0,

@@ -5,12 +5,11 @@ use parts::Part;
 use signals::WireSet;
 use std::test::Fail;
 
-// The number of the refusal; nothing where the counter is made.
+// The number of the refusal, which is what people know; nothing where the counter is made.
 fn refused(input: u8, output: u8, number: u64) -> Option<u8> {
-    match Counter::new(input, output, number) {
-        Ok(_) => None,
-        Err(refusal) => Some(refusal.number()),
-    }
+    Counter::new(input, output, number)
+        .err()
+        .map(|refusal| refusal.number())
 }
 
 #[test]

@@ -1,4 +1,5 @@
-// Machines and wires that the examples share.
+// Machines and wires that the examples share. `operators_tests` has its own: in a crate below both they would be public
+// items, with contracts and must-fail edits for a few constants of tests.
 use machines::Machine;
 use parts::Fault;
 use rules::Rule;
@@ -10,7 +11,7 @@ pub(crate) const A: WireSet = WireSet { bits: 1 };
 
 pub(crate) const B: WireSet = WireSet { bits: 2 };
 
-pub(crate) const NONE: WireSet = WireSet { bits: 0 };
+pub(crate) const NONE: WireSet = WireSet::EMPTY;
 
 // A set that no part of the examples emits: what stands in a list before a run.
 pub(crate) const BEFORE: WireSet = WireSet { bits: 0xee };

@@ -4,15 +4,15 @@ use machines::{Machine, MachineRefusal};
 use rules::Rule;
 use signals::WireSet;
 
-// The number of the refusal, and the place of the refused rule from 0; nothing where the machine is made.
+// The number of the refusal, which is what people know, and the place of the refused rule from 0; nothing where the
+// machine is made.
 fn refused(states: u8, rules: &[Rule]) -> Option<(u8, Option<usize>)> {
-    match Machine::new(states, rules) {
-        Ok(_) => None,
-        Err(refusal) => match refusal {
-            MachineRefusal::States => Some((refusal.number(), None)),
-            MachineRefusal::OfRule { rule, .. } => Some((refusal.number(), Some(rule))),
-        },
-    }
+    let refusal = Machine::new(states, rules).err()?;
+    let place = match refusal {
+        MachineRefusal::States => None,
+        MachineRefusal::OfRule { rule, .. } => Some(rule),
+    };
+    Some((refusal.number(), place))
 }
 
 // A rule from 0 to a state, when A is there and `absent` is not.

@@ -8,7 +8,7 @@ fn whole(ticks: usize) -> RunReport {
     RunReport { ticks, fault: None }
 }
 
-// Nothing was stepped.
+// Nothing was stepped. The numbers, and not `SHORT_LIST`: the tests are to show them.
 fn refused() -> RunReport {
     RunReport {
         ticks: 0,

@@ -13,7 +13,7 @@ use Rattle.parts.specs.Searching.{ok_same, both_ok, opened}
 use Rattle.parts.specs.Accepting.{outputs_ok}
 use Rattle.parts.specs.Agreement.{stage_went}
 use Rattle.parts.proofs.Staging.{run_stays, stays_behind}
-use Rattle.operators.specs.Joined.{Held, HeldStaged, held, parallel_course, encapsulation_course, inhibition_course, refinement_moves}
+use Rattle.operators.specs.Joined.{Held, HeldStaged, held, parallel_course, encapsulation_course, inhibition_course, refinement_moves, refinement_course}
 use Rattle.operators.specs.Holding.{held_steady}
 
 -- ---- sets
@@ -144,3 +144,19 @@ refinement_stays k m n stage c g h = run_stays (move_of held) (went_of held) (st
     rests s (resting {m} {n} {stage} {c} h) x v e f =
         let b = both_ok with_outputs (m [] x) (awake_answer k stage (answer_of held c x)) v e in
         ap (λ u. u.1) b.4 ∙ h [] x b.0 b.2 (sym (ap fired b.4) ∙ f)
+
+-- ---- the course now and the one behind a restart, together
+pub parallel_both_named : (e f : ℕ) (c g d h : Course ℕ) → Named e c × Named e g → Named f d × Named f h → Named (union e f) (parallel_course (c, g) (d, h)) × Named (union e f) (parallel_course (g, g) (h, h))
+parallel_both_named e f c g d h n m = (parallel_named e f c g d h n.0 m.0, parallel_named e f g g h h n.1 m.1)
+
+pub encapsulation_both_named : (g place e : ℕ) (c f : Course ℕ) → Named e c × Named e f → Named (difference e g) (encapsulation_course g place (c, f)) × Named (difference e g) (encapsulation_course g place (f, f))
+encapsulation_both_named g place e c f n = (encapsulation_named g place e c f n.0, encapsulation_named g place e f f n.1)
+
+pub inhibition_both_named : (w e : ℕ) (c f : Course ℕ) → Named e c × Named e f → Named e (inhibition_course w (c, f)) × Named e (inhibition_course w (f, f))
+inhibition_both_named w e c f n = (inhibition_named w e c f n.0, inhibition_named w e f f n.1)
+
+pub refinement_both_named : (k e f : ℕ) (m n : Course Move) (stage : ℕ) (c g : Course ℕ) → Named e (outputs_of m) × Named e (outputs_of n) → Named f c × Named f g → Named (union e f) (refinement_course k (m, n, stage) (c, g)) × Named (union e f) (refinement_course k (n, n, 0) (g, g))
+refinement_both_named k e f m n stage c g p q = (refinement_named k e f m n stage c g p.0 q.0 q.1, refinement_named k e f n n 0 g g p.1 q.1 q.1)
+
+pub refinement_both_stay : (k : ℕ) (m n : Course Move) (stage : ℕ) (c g : Course ℕ) → Stays stage m × Stays 0 n → Stays stage (refinement_moves k (m, n, stage) (c, g)) × Stays 0 (refinement_moves k (n, n, 0) (g, g))
+refinement_both_stay k m n stage c g h = (refinement_stays k m n stage c g h.0, refinement_stays k n n 0 g g h.1)

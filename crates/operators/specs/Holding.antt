@@ -6,11 +6,13 @@ use Rattle.parts.specs.Lists.{Each}
 use Rattle.parts.specs.Courses.{Answer, Course, behind, Lawful, run_on, run_of}
 use Rattle.parts.specs.Operators.{Move, under}
 use Rattle.parts.specs.Plans.{Plan, StagedPlan, told_stage, worked, begin, begin_staged, plan_course, plan_moves}
-use Rattle.parts.specs.Trees.{StagedComposition, Reacting, parallel, encapsulation, inhibition, refinement, moved, part, staged, outputs, answer_of, move_of, next_of, went_of, course_of, moves_of}
+use Rattle.parts.specs.Trees.{Composition, StagedComposition, Reacting, parallel, encapsulation, inhibition, refinement, moved, part, staged, outputs, answer_of, move_of, next_of, went_of, course_of, moves_of}
 use Rattle.parts.specs.Stages.{outputs_of}
+use Rattle.parts.specs.Running.{run_lawful}
+use Rattle.parts.proofs.Staging.{outputs_lawful}
 use Rattle.parts.specs.Agreement.{Agree, Steady, parallel_agree, inhibition_agree, encapsulation_agree, refinement_agree}
 use Rattle.parts.specs.Working.{worked_steady, restart_begin, stage_begin}
-use Rattle.operators.specs.Joined.{held, parallel_course, encapsulation_course, inhibition_course, refinement_moves, refinement_course}
+use Rattle.operators.specs.Joined.{Held, HeldStaged, held, parallel_course, encapsulation_course, inhibition_course, refinement_moves, refinement_course}
 
 pub held_steady : Steady held
 held_steady = record {
@@ -20,6 +22,16 @@ held_steady = record {
   back_went = λ p x. refl;
   leads = λ p x v e. ap (λ a. told_stage a p.2) e;
 }
+
+-- ---- a course over what is held is lawful, whatever that is
+pub both_lawful : (t u : Composition Held HeldStaged) → Lawful (course_of held t) × Lawful (course_of held u)
+both_lawful t u = (run_lawful (answer_of held) (next_of held) t, run_lawful (answer_of held) (next_of held) u)
+
+pub both_orderly : (t u : StagedComposition Held HeldStaged) → Lawful (moves_of held t) × Lawful (moves_of held u)
+both_orderly t u = (run_lawful (move_of held) (went_of held) t, run_lawful (move_of held) (went_of held) u)
+
+pub both_outputs_lawful : (t u : StagedComposition Held HeldStaged) → Lawful (outputs_of (moves_of held t)) × Lawful (outputs_of (moves_of held u))
+both_outputs_lawful t u = (outputs_lawful (moves_of held t) (both_orderly t u).0, outputs_lawful (moves_of held u) (both_orderly t u).1)
 
 -- ---- a part that is held has its own course
 lawful_behind : {A : Type 0} (c : Course A) (y : ℕ) → Lawful c → Lawful (behind c y)

@@ -1,14 +1,10 @@
 // The four operators of Argos over any parts.
 #![tactic(auto)]
 
-pub mod beside;
 pub mod encapsulation;
-pub mod hide;
 pub mod inhibition;
 pub mod parallel;
-pub mod refine;
 pub mod refinement;
-pub mod unless;
 pub mod unmade;
 
 pub use encapsulation::Encapsulation;

@@ -1,4 +1,5 @@
-// Machines and wires that the examples share.
+// Machines and wires that the examples share. `machines_tests` has its own: in a crate below both they would be public
+// items, with contracts and must-fail edits for a few constants of tests.
 use machines::Machine;
 use parts::Fault;
 use rules::Rule;
@@ -14,7 +15,7 @@ pub(crate) const C: WireSet = WireSet { bits: 4 };
 
 pub(crate) const END: WireSet = WireSet { bits: 8 };
 
-pub(crate) const NONE: WireSet = WireSet { bits: 0 };
+pub(crate) const NONE: WireSet = WireSet::EMPTY;
 
 // Two faults, of gates that refuse A.
 pub(crate) const FIRST: Fault = Fault {
@@ -31,13 +32,7 @@ pub(crate) const SECOND: Fault = Fault {
 
 // A rule on wires that are there.
 pub(crate) fn on(present: WireSet, from: u8, to: u8, emits: WireSet) -> Rule {
-    Rule {
-        from,
-        to,
-        present,
-        absent: NONE,
-        emits,
-    }
+    without(present, NONE, from, to, emits)
 }
 
 // A rule on wires that are there and others that are not.
@@ -53,6 +48,5 @@ pub(crate) fn without(present: WireSet, absent: WireSet, from: u8, to: u8, emits
 
 // A bit: from 0 to 1 on one wire; from 1 to 0 on it, emitting another.
 pub(crate) fn bit(input: WireSet, output: WireSet) -> Result<Machine, Fail> {
-    let machine = Machine::new(2, &[on(input, 0, 1, NONE), on(input, 1, 0, output)])?;
-    Ok(machine)
+    Ok(Machine::new(2, &[on(input, 0, 1, NONE), on(input, 1, 0, output)])?)
 }

@@ -7,14 +7,6 @@ use parts::{Fault, Part};
 use signals::WireSet;
 use std::test::Fail;
 
-// The encapsulation, or a failed test.
-fn hide<P: Part + Drop>(hidden: u64, place: u16, inside: P) -> Result<Encapsulation<P>, Fail> {
-    match Encapsulation::new(WireSet { bits: hidden }, place, inside) {
-        Ok(encapsulation) => Ok(encapsulation),
-        Err(_) => Err(Fail::new("the encapsulation was refused")),
-    }
-}
-
 fn fault(cause: u8, place: u16, count: u16) -> Result<WireSet, Fault> {
     Err(Fault {
         cause,
@@ -27,7 +19,7 @@ fn fault(cause: u8, place: u16, count: u16) -> Result<WireSet, Fault> {
 #[test]
 fn three_bits(rt: HostRuntime) -> Result<(), Fail> {
     let bits = Parallel::new(Parallel::new(bit(A, B)?, bit(B, C)?), bit(C, END)?);
-    let mut counter = hide(0b0110, 4, bits)?;
+    let mut counter = Encapsulation::new(B.union(C), 4, bits)?;
     assert_eq!(rt; counter.wires_read(), A);
     assert_eq!(rt; counter.wires_emitted(), END);
     for _ in 0..2u8 {
@@ -49,7 +41,7 @@ fn three_bits(rt: HostRuntime) -> Result<(), Fail> {
 // Wires that come from outside are not let through where they are hidden.
 #[test]
 fn hidden_from_outside(rt: HostRuntime) -> Result<(), Fail> {
-    let mut part = hide(0b0010, 0, bit(B, C)?)?;
+    let mut part = Encapsulation::new(B, 0, bit(B, C)?)?;
     assert_eq!(rt; part.step(B), Ok(NONE));
     assert_eq!(rt; part.step(B), Ok(NONE));
     Ok(())
@@ -60,7 +52,7 @@ fn hidden_from_outside(rt: HostRuntime) -> Result<(), Fail> {
 fn two_that_wait_for_each_other(rt: HostRuntime) -> Result<(), Fail> {
     let p = Machine::new(2, &[on(WireSet { bits: 0b101 }, 0, 1, B)])?;
     let q = Machine::new(2, &[on(WireSet { bits: 0b110 }, 0, 1, A)])?;
-    let mut part = hide(0b011, 3, Parallel::new(p, q))?;
+    let mut part = Encapsulation::new(A.union(B), 3, Parallel::new(p, q))?;
     assert_eq!(rt; part.step(C), fault(42, 3, 2));
     assert_eq!(rt; part.step(NONE), Ok(NONE));
     assert_eq!(rt; part.look(C), fault(42, 3, 2));
@@ -72,7 +64,7 @@ fn two_that_wait_for_each_other(rt: HostRuntime) -> Result<(), Fail> {
 fn one_that_contradicts(rt: HostRuntime) -> Result<(), Fail> {
     let p = Machine::new(2, &[on(WireSet { bits: 0b101 }, 0, 1, B)])?;
     let q = Machine::new(2, &[without(C, B, 0, 1, A)])?;
-    let mut part = hide(0b011, 3, Parallel::new(p, q))?;
+    let mut part = Encapsulation::new(A.union(B), 3, Parallel::new(p, q))?;
     assert_eq!(rt; part.step(C), fault(41, 3, 0));
     assert_eq!(rt; part.step(NONE), Ok(NONE));
     Ok(())
@@ -90,7 +82,7 @@ fn question_and_answer(rt: HostRuntime) -> Result<(), Fail> {
         ],
     )?;
     let q = Machine::new(1, &[on(A, 0, 0, B)])?;
-    let mut part = hide(0b011, 2, Parallel::new(p, q))?;
+    let mut part = Encapsulation::new(A.union(B), 2, Parallel::new(p, q))?;
     assert_eq!(rt; part.step(C), Ok(NONE));
     // P is in 1
     assert_eq!(rt; part.step(C), Ok(END));
@@ -101,7 +93,7 @@ fn question_and_answer(rt: HostRuntime) -> Result<(), Fail> {
 #[test]
 fn the_inner_fault_comes_up(rt: HostRuntime) -> Result<(), Fail> {
     let machine = Machine::new(1, &[on(WireSet { bits: 0b101 }, 0, 0, A)])?;
-    let mut part = hide(0b100, 2, hide(0b001, 1, machine)?)?;
+    let mut part = Encapsulation::new(C, 2, Encapsulation::new(A, 1, machine)?)?;
     assert_eq!(rt; part.step(NONE), fault(42, 1, 2));
     assert_eq!(rt; part.step(B), fault(42, 1, 2));
     Ok(())
@@ -110,9 +102,9 @@ fn the_inner_fault_comes_up(rt: HostRuntime) -> Result<(), Fail> {
 // A gate that refuses the hidden wire under a setting is the fault of the whole.
 #[test]
 fn a_refusing_setting_is_not_skipped(rt: HostRuntime) -> Result<(), Fail> {
-    let mut part = hide(0b001, 5, Gate { fault: FIRST })?;
+    let mut part = Encapsulation::new(A, 5, Gate { fault: FIRST })?;
     assert_eq!(rt; part.step(NONE), Err(FIRST));
-    let mut other = hide(0b010, 5, Gate { fault: FIRST })?;
+    let mut other = Encapsulation::new(B, 5, Gate { fault: FIRST })?;
     assert_eq!(rt; other.step(NONE), Ok(NONE));
     assert_eq!(rt; other.step(A), Err(FIRST));
     Ok(())
@@ -121,16 +113,14 @@ fn a_refusing_setting_is_not_skipped(rt: HostRuntime) -> Result<(), Fail> {
 // At most 12 wires; a refused making hands the part back as it was.
 #[test]
 fn twelve_hidden_wires(rt: HostRuntime) -> Result<(), Fail> {
-    let mut part = hide(0xfff0, 0, bit(A, B)?)?;
+    let mut part = Encapsulation::new(WireSet { bits: 0xfff0 }, 0, bit(A, B)?)?;
     assert_eq!(rt; part.step(A), Ok(NONE));
     let mut machine = bit(A, B)?;
     assert_eq!(rt; machine.step(A), Ok(NONE));
-    match Encapsulation::new(WireSet { bits: 0x1_fff0 }, 0, machine) {
-        Ok(_) => Err(Fail::new("13 wires were hidden")),
-        Err(unmade) => {
-            assert_eq!(rt; unmade.refusal.number(), 16);
-            assert_eq!(rt; unmade.inside.look(A), Ok(B));
-            Ok(())
-        }
-    }
+    let Err(unmade) = Encapsulation::new(WireSet { bits: 0x1_fff0 }, 0, machine) else {
+        return Err(Fail::new("13 wires were hidden"));
+    };
+    assert_eq!(rt; unmade.refusal.number(), 16);
+    assert_eq!(rt; unmade.inside.look(A), Ok(B));
+    Ok(())
 }

@@ -9,8 +9,7 @@ use std::test::Fail;
 
 // A switch: from 0 to 1 on C, and back on C, emitting END.
 fn switch() -> Result<Machine, Fail> {
-    let machine = Machine::new(2, &[on(C, 0, 1, NONE), on(C, 1, 0, END)])?;
-    Ok(machine)
+    Ok(Machine::new(2, &[on(C, 0, 1, NONE), on(C, 1, 0, END)])?)
 }
 
 // The bit reacts in stage 1 alone, also in the tick that leaves it, and starts over.

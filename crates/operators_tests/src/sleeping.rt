@@ -7,18 +7,10 @@ use parts::Part;
 use signals::WireSet;
 use std::test::Fail;
 
-// The inhibition, or a failed test.
-fn unless<P: Part + Drop>(wire: u8, inside: P) -> Result<Inhibition<P>, Fail> {
-    match Inhibition::new(wire, inside) {
-        Ok(inhibition) => Ok(inhibition),
-        Err(_) => Err(Fail::new("the inhibition was refused")),
-    }
-}
-
 // A with the wire 2 moves nothing.
 #[test]
 fn a_bit_asleep(rt: HostRuntime) -> Result<(), Fail> {
-    let mut part = unless(2, bit(A, B)?)?;
+    let mut part = Inhibition::new(2, bit(A, B)?)?;
     assert_eq!(rt; part.wires_read(), WireSet { bits: 0b101 });
     assert_eq!(rt; part.wires_emitted(), B);
     assert_eq!(rt; part.step(A), Ok(NONE));
@@ -30,7 +22,7 @@ fn a_bit_asleep(rt: HostRuntime) -> Result<(), Fail> {
 
 #[test]
 fn a_counter_asleep(rt: HostRuntime) -> Result<(), Fail> {
-    let mut part = unless(2, Counter::new(0, 1, 2)?)?;
+    let mut part = Inhibition::new(2, Counter::new(0, 1, 2)?)?;
     assert_eq!(rt; part.step(A), Ok(NONE));
     assert_eq!(rt; part.step(C), Ok(NONE));
     assert_eq!(rt; part.step(A), Ok(B));
@@ -42,7 +34,7 @@ fn a_counter_asleep(rt: HostRuntime) -> Result<(), Fail> {
 // Asleep it refuses nothing.
 #[test]
 fn a_gate_asleep(rt: HostRuntime) -> Result<(), Fail> {
-    let mut part = unless(2, Gate { fault: FIRST })?;
+    let mut part = Inhibition::new(2, Gate { fault: FIRST })?;
     assert_eq!(rt; part.step(A), Err(FIRST));
     assert_eq!(rt; part.step(WireSet { bits: 0b101 }), Ok(NONE));
     Ok(())
@@ -53,12 +45,10 @@ fn a_gate_asleep(rt: HostRuntime) -> Result<(), Fail> {
 fn wire_64(rt: HostRuntime) -> Result<(), Fail> {
     let mut machine = bit(A, B)?;
     assert_eq!(rt; machine.step(A), Ok(NONE));
-    match Inhibition::new(64, machine) {
-        Ok(_) => Err(Fail::new("wire 64 was taken")),
-        Err(unmade) => {
-            assert_eq!(rt; unmade.refusal.number(), 37);
-            assert_eq!(rt; unmade.inside.look(A), Ok(B));
-            Ok(())
-        }
-    }
+    let Err(unmade) = Inhibition::new(64, machine) else {
+        return Err(Fail::new("wire 64 was taken"));
+    };
+    assert_eq!(rt; unmade.refusal.number(), 37);
+    assert_eq!(rt; unmade.inside.look(A), Ok(B));
+    Ok(())
 }

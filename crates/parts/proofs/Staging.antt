@@ -6,12 +6,11 @@ use Rattle.parts.specs.Operators.{Move, fired}
 use Rattle.parts.specs.Trees.{outputs}
 use Rattle.parts.specs.Plans.{told_stage, stage_after}
 use Rattle.parts.specs.Stages.{outputs_of, Stays}
-use Rattle.parts.specs.Searching.{ok_not}
 
 -- ---- outputs
 outputs_err : (a : Answer Move) (f : Fault) → outputs a ≡ Err f → a ≡ Err f
-outputs_err (Ok m) f e = absurd (ok_not (outputs (Ok m)) m.0 f refl e)
-outputs_err (Err g) f e = let same : g ≡ f = cc in ap Err same
+outputs_err (Ok m) f e = cc
+outputs_err (Err g) f e = cc
 
 pub outputs_lawful : (c : Course Move) → Lawful c → Lawful (outputs_of c)
 outputs_lawful c l xs x f e ys y = ap outputs (l xs x f (outputs_err (c xs x) f e) ys y)

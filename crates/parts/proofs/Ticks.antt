@@ -1,19 +1,15 @@
 -- Runs: the outcome of a run, where it leads, and the law of runs. Assumes nothing.
 use Rattle.std.proofs.Common.{◌≡◌, ℕ, zero, suc, ◌+◌, ◌<◌, ◌≤◌, leb, List, [], ◌∷◌, ◌++◌, map, length, get_or, take, drop, set, Some, None, Ok, Err, Option, sym, refl, ap, ◌∙◌, subst, arith}
 use Rattle.std.proofs.lemmas.List.{append_assoc, append-nil, drop_at, drop_more, get_or_append_left, get_or-map, length-map, length_push, length-take-le, map-append, map-set, take_all, take-append-drop, take_more}
-use Rattle.std.proofs.lemmas.Bool.{cond-true, cond-false, le-leb, lt-leb}
+use Rattle.std.proofs.lemmas.Bool.{cond-true, le-leb}
 use Rattle.parts.specs.declared.fault.Fault.{Fault}
 use Rattle.parts.specs.declared.stepping.RunReport.{RunReport}
-use Rattle.parts.specs.Courses.{Answer, Course, behind, after_answer, after as after_step, Set}
+use Rattle.parts.specs.Courses.{Answer, Course, behind, after_answer, after as after_step}
 use Rattle.signals.specs.declared.wire_set.WireSet.{WireSet}
-use Rattle.parts.specs.Plans.{Plan, plan_course}
+use Rattle.parts.specs.Plans.{Plan}
 use Rattle.parts.specs.Calls.{step, Reached, short_list}
 use Rattle.parts.specs.Runs.{numbers, behind_all, Outcome, going_on, ran, ran_in, report, written, Ran, RanIn, Leads}
-use Rattle.parts.specs.Calling.{promise}
 use Rattle.parts.proofs.Turns.{write_next}
-
-faultless : (f : Fault) → Some f ≡ None → ⊥
-faultless f e = let z : ◌≡◌ {A = ℕ} 0 1 = cc in omega arith
 
 -- ---- the outcome of a run, one input after the other
 within_step : (a : Answer ℕ) (rest : Outcome) (n : ℕ) → length rest.0 ≤ n → length (going_on a rest).0 ≤ suc n
@@ -39,7 +35,7 @@ each c (x ∷ xs) i h = each_step c x xs (c [] x) (ran (behind c x) xs) refl (ea
 
 ended_step : (a : Answer ℕ) (rest : Outcome) (n : ℕ) → (rest.1 ≡ None → length rest.0 ≡ n) → (going_on a rest).1 ≡ None → length (going_on a rest).0 ≡ suc n
 ended_step (Ok o) rest n all e = ap suc (all e)
-ended_step (Err f) rest n all e = absurd (faultless f e)
+ended_step (Err f) rest n all e = cc
 
 ended : (c : Course ℕ) (xs : List ℕ) → (ran c xs).1 ≡ None → length (ran c xs).0 ≡ length xs
 ended c [] e = refl
@@ -54,7 +50,7 @@ stopped_step c x xs (Ok o) rest f e all s = let more = all s in (omega arith, mo
 stopped_step c x xs (Err g) rest f e all s = (omega arith, cc)
 
 stopped : (c : Course ℕ) (xs : List ℕ) (f : Fault) → (ran c xs).1 ≡ Some f → Stopped c xs (ran c xs).0 f
-stopped c [] f e = absurd (faultless f (sym e))
+stopped c [] f e = cc
 stopped c (x ∷ xs) f e = stopped_step c x xs (c [] x) (ran (behind c x) xs) f refl (stopped (behind c x) xs f) e
 
 -- more inputs behind accepted ones
@@ -63,19 +59,13 @@ followed first more = (first.0 ++ more.0, more.1)
 
 join_step : (a : Answer ℕ) (rest more whole : Outcome) → (rest.1 ≡ None → whole ≡ followed rest more) → (going_on a rest).1 ≡ None → going_on a whole ≡ followed (going_on a rest) more
 join_step (Ok o) rest more whole all e = ap (going_on (Ok o)) (all e)
-join_step (Err f) rest more whole all e = absurd (faultless f e)
+join_step (Err f) rest more whole all e = cc
 
 ran_join : (c : Course ℕ) (xs zs : List ℕ) → (ran c xs).1 ≡ None → ran c (xs ++ zs) ≡ followed (ran c xs) (ran (behind_all c xs) zs)
 ran_join c [] zs e = refl
 ran_join c (x ∷ xs) zs e = join_step (c [] x) (ran (behind c x) xs) (ran (behind_all c (x ∷ xs)) zs) (ran (behind c x) (xs ++ zs)) (ran_join (behind c x) xs zs) e
 
 -- ---- where steps with inputs lead a part with the plan p
-leads_none : (p : Plan) (c : Course ℕ) → Leads p c [] c
-leads_none p c earlier r = subst (λ ks. Reached p c ks) (sym (append-nil earlier)) r
-
-pub leads_step : (p : Plan) (c d : Course ℕ) (x : ℕ) → Set x → d ≡ after_step c x → Leads p c (x ∷ []) d
-leads_step p c d x h l earlier r = subst (λ e. Reached p e (earlier ++ step x ∷ [])) (sym l) (promise p (plan_course p) (λ _ _ _ _. refl) c earlier (step x ∷ []) (h, tt) r).reached
-
 leads_join : (p : Plan) (c b d : Course ℕ) (xs ys : List ℕ) → Leads p c xs b → Leads p b ys d → Leads p c (xs ++ ys) d
 leads_join p c b d xs ys first then earlier r = subst (λ ks. Reached p d ks) (append_assoc earlier (map step xs) (map step ys) ∙ ap (λ ks. earlier ++ ks) (sym (map-append step xs ys))) (then (earlier ++ map step xs) (first earlier r))
 
@@ -85,9 +75,6 @@ pub record Gone (p : Plan) (c d : Course ℕ) (xs before after : List ℕ) : Typ
   pub outputs : after ≡ (ran c xs).0 ++ drop (length xs) before
   pub course : d ≡ behind_all c xs
   pub reached : Leads p c xs d
-
-pub gone_none : (p : Plan) (c : Course ℕ) (before : List ℕ) → Gone p c c [] before before
-gone_none p c before = record { fault = refl; outputs = refl; course = refl; reached = leads_none p c }
 
 gone_more : (p : Plan) (c b d : Course ℕ) (xs before after : List ℕ) → Gone p c b xs before after → length xs < length before → (x o : ℕ) → b [] x ≡ Ok o → d ≡ behind b x → Leads p b (x ∷ []) d → Gone p c d (xs ++ x ∷ []) before (set after (length xs) o)
 gone_more p c b d xs before after gone h x o e l more_led =
@@ -127,35 +114,17 @@ abbrev reported : ℕ → Option Fault → RunReport
 reported ticks fault = record { ticks = ticks; fault = fault }
 
 -- ---- what a call answers: room is the length of the outputs
-pub record Said (p : Plan) (c d : Course ℕ) (xs before after : List ℕ) (room ticks : ℕ) (fault : Option Fault) : Type 0 where
+pub record Said (c d : Course ℕ) (xs before after : List ℕ) (room ticks : ℕ) (fault : Option Fault) : Type 0 where
   pub value : reported ticks fault ≡ report (ran_in c xs room)
   pub outputs : after ≡ written (ran_in c xs room) before
-  pub course : d ≡ behind_all c (take ticks xs)
-  pub reached : Leads p c (take ticks xs) d
   pub law_of : RanIn c xs before after ticks fault d
 
-said_short : (p : Plan) (c : Course ℕ) (xs before : List ℕ) (room : ℕ) → length before ≡ room → room < length xs → Said p c c xs before before room 0 (Some short_list)
-said_short p c xs before room e h =
-    let out : ran_in c xs room ≡ ([], Some short_list) = cond-false (leb (length xs) room) (ran c xs) ([], Some short_list) (lt-leb (length xs) room h) in
-    record {
-      value = ap report (sym out);
-      outputs = ap (λ t. written t before) (sym out);
-      course = refl;
-      reached = leads_none p c;
-      law_of = record {
-        room = λ l. absurd (let z : ⊥ = omega arith in z);
-        no_room = λ l. record { none = refl; short = refl; stay = refl; course = refl };
-      };
-    }
-
-said : (p : Plan) (c d : Course ℕ) (xs before after : List ℕ) (room ticks : ℕ) (fault : Option Fault) → length before ≡ room → length xs ≤ room → ticks ≡ length (ran c xs).0 → fault ≡ (ran c xs).1 → after ≡ written (ran c xs) before → d ≡ behind_all c (take ticks xs) → Leads p c (take ticks xs) d → Said p c d xs before after room ticks fault
-said p c d xs before after room ticks fault e h t f a k led =
+said : (c d : Course ℕ) (xs before after : List ℕ) (room ticks : ℕ) (fault : Option Fault) → length before ≡ room → length xs ≤ room → ticks ≡ length (ran c xs).0 → fault ≡ (ran c xs).1 → after ≡ written (ran c xs) before → d ≡ behind_all c (take ticks xs) → Said c d xs before after room ticks fault
+said c d xs before after room ticks fault e h t f a k =
     let out : ran_in c xs room ≡ ran c xs = cond-true (leb (length xs) room) (ran c xs) ([], Some short_list) (le-leb (length xs) room h) in
     record {
       value = (λ i. reported (t i) (f i)) ∙ ap report (sym out);
       outputs = a ∙ ap (λ u. written u before) (sym out);
-      course = k;
-      reached = led;
       law_of = record {
         room = λ l. law c d xs before after ticks fault t f a k;
         no_room = λ l. absurd (let z : ⊥ = omega arith in z);
@@ -163,17 +132,16 @@ said p c d xs before after room ticks fault e h t f a k led =
     }
 
 -- at the end of the inputs
-said_all : (p : Plan) (c d : Course ℕ) (xs before after : List ℕ) (room ticks : ℕ) → length before ≡ room → length xs ≤ room → Gone p c d xs before after → ticks ≡ length xs → Said p c d xs before after room ticks None
+said_all : (p : Plan) (c d : Course ℕ) (xs before after : List ℕ) (room ticks : ℕ) → length before ≡ room → length xs ≤ room → Gone p c d xs before after → ticks ≡ length xs → Said c d xs before after room ticks None
 said_all p c d xs before after room ticks e h gone t =
     let count = ended c xs gone.fault in
     let whole : take ticks xs ≡ xs = take_all ticks xs (omega arith) in
-    said p c d xs before after room ticks None e h (t ∙ sym count) (sym gone.fault)
+    said c d xs before after room ticks None e h (t ∙ sym count) (sym gone.fault)
     (gone.outputs ∙ ap (λ n. (ran c xs).0 ++ drop n before) (sym count))
     (gone.course ∙ ap (behind_all c) (sym whole))
-    (subst (λ ys. Leads p c ys d) (sym whole) gone.reached)
 
 -- at the first input that is refused
-said_stopped : (p : Plan) (c b d : Course ℕ) (xs before after : List ℕ) (room : ℕ) → length before ≡ room → length xs ≤ room → (i : ℕ) → i < length xs → Gone p c b (take i xs) before after → (f : Fault) → b [] (get_or xs i 0) ≡ Err f → d ≡ b → Said p c d xs before after room i (Some f)
+said_stopped : (p : Plan) (c b d : Course ℕ) (xs before after : List ℕ) (room : ℕ) → length before ≡ room → length xs ≤ room → (i : ℕ) → i < length xs → Gone p c b (take i xs) before after → (f : Fault) → b [] (get_or xs i 0) ≡ Err f → d ≡ b → Said c d xs before after room i (Some f)
 said_stopped p c b d xs before after room e h i l gone f s k =
     let done = take i xs in
     let out : ran c xs ≡ ((ran c done).0, Some f) =
@@ -183,12 +151,11 @@ said_stopped p c b d xs before after room e h i l gone f s k =
     ∙ ap (λ t. (t, Some f)) (append-nil (ran c done).0)
     in
     let count : length (ran c done).0 ≡ i = ended c done gone.fault ∙ length-take-le i xs (omega arith) in
-    said p c d xs before after room i (Some f) e h
+    said c d xs before after room i (Some f) e h
     (sym count ∙ ap (λ (u : Outcome). length u.0) (sym out))
     (ap (λ (u : Outcome). u.1) (sym out))
     (gone.outputs ∙ ap (λ n. (ran c done).0 ++ drop n before) (sym (ended c done gone.fault)) ∙ ap (λ u. written u before) (sym out))
     (k ∙ gone.course)
-    (subst (λ u. Leads p c done u) (sym k) gone.reached)
 
 -- ---- the program's lists
 -- one more input
@@ -206,7 +173,7 @@ gone_next p p' c b d inputs before after i default output gone h room same_p e l
     (subst (λ t. Gone p c d t (numbers before) (set (numbers after) (length (take i xs)) output.bits)) (sym (take_more xs i 0 (omega arith))) more))
 
 -- an input that is refused
-pub said_next : (p : Plan) (c b d : Course ℕ) (inputs before after : List WireSet) (i : ℕ) (default : WireSet) (f : Fault) → Gone p c b (take i (numbers inputs)) (numbers before) (numbers after) → i < length inputs → length inputs ≤ length before → Err f ≡ b [] (get_or inputs i default).bits → d ≡ after_step b (get_or inputs i default).bits → Said p c d (numbers inputs) (numbers before) (numbers after) (length before) i (Some f)
+pub said_next : (p : Plan) (c b d : Course ℕ) (inputs before after : List WireSet) (i : ℕ) (default : WireSet) (f : Fault) → Gone p c b (take i (numbers inputs)) (numbers before) (numbers after) → i < length inputs → length inputs ≤ length before → Err f ≡ b [] (get_or inputs i default).bits → d ≡ after_step b (get_or inputs i default).bits → Said c d (numbers inputs) (numbers before) (numbers after) (length before) i (Some f)
 said_next p c b d inputs before after i default f gone h room e l =
     let bits : WireSet → ℕ = λ s. s.bits in
     let many : length (numbers inputs) ≡ length inputs = length-map inputs bits in
@@ -215,17 +182,10 @@ said_next p c b d inputs before after i default f gone h room e l =
     (l ∙ ap (λ a. after_answer a b (get_or inputs i default).bits) (sym e))
 
 -- the end of the inputs
-pub said_end : (p : Plan) (c d : Course ℕ) (inputs before after : List WireSet) (i : ℕ) → Gone p c d (take i (numbers inputs)) (numbers before) (numbers after) → length inputs ≤ i → length inputs ≤ length before → Said p c d (numbers inputs) (numbers before) (numbers after) (length before) (length inputs) None
+pub said_end : (p : Plan) (c d : Course ℕ) (inputs before after : List WireSet) (i : ℕ) → Gone p c d (take i (numbers inputs)) (numbers before) (numbers after) → length inputs ≤ i → length inputs ≤ length before → Said c d (numbers inputs) (numbers before) (numbers after) (length before) (length inputs) None
 said_end p c d inputs before after i gone h room =
     let bits : WireSet → ℕ = λ s. s.bits in
     let many : length (numbers inputs) ≡ length inputs = length-map inputs bits in
     said_all p c d (numbers inputs) (numbers before) (numbers after) (length before) (length inputs) (length-map before bits) (omega arith)
     (subst (λ t. Gone p c d t (numbers before) (numbers after)) (take_all i (numbers inputs) (omega arith)) gone)
     (sym many)
-
--- no room
-pub said_none : (p : Plan) (c : Course ℕ) (inputs before : List WireSet) → length before < length inputs → Said p c c (numbers inputs) (numbers before) (numbers before) (length before) 0 (Some short_list)
-said_none p c inputs before h =
-    let bits : WireSet → ℕ = λ s. s.bits in
-    let many : length (numbers inputs) ≡ length inputs = length-map inputs bits in
-    said_short p c (numbers inputs) (numbers before) (length before) (length-map before bits) (omega arith)

@@ -1,37 +1,31 @@
 -- Calls performed one after the other keep the whole promise. Assumes nothing.
-use Rattle.std.proofs.Common.{◌≡◌, ℕ, suc, ◌+◌, ◌<◌, ◌≤◌, leb, List, [], ◌∷◌, ◌++◌, length, get_or, take, drop, set, Ok, Err, sym, refl, ap, ◌∙◌, subst, arith}
+use Rattle.std.proofs.Common.{◌≡◌, ℕ, suc, ◌+◌, ◌<◌, ◌≤◌, List, [], ◌∷◌, ◌++◌, length, get_or, take, drop, set, Ok, sym, refl, ap, ◌∙◌, subst, arith}
+use Rattle.std.specs.List.{fold, scan}
+use Rattle.std.proofs.lemmas.List.Sums.{fold-append}
 use Rattle.std.proofs.lemmas.List.{append_assoc, drop-drop, drop_more, drop-set-lt, length-map, length_push, length-take-le, map_push, map-set, set_at, take_at, take-map, take_more}
-use Rattle.std.proofs.lemmas.Bool.{cond-true, cond-false, le-leb, lt-leb}
 use Rattle.parts.specs.declared.call.Call.{Call as Calling}
 use Rattle.parts.specs.declared.call.Reply.{Reply as Replying}
 use Rattle.parts.specs.Courses.{Course, Set, Same}
 use Rattle.parts.specs.Trees.{course_of}
 use Rattle.parts.specs.Plans.{Plan, worked, begin, plan_course}
 use Rattle.parts.specs.Readings.{Accepted, AllInOrder, OneReading}
-use Rattle.parts.specs.Calls.{Call, Reply, in_turn, left_by_all, reply, left_by, replies, after_calls, part_reply, part_left, part_replies, part_after, Reached, AsPlanned, Promise, Promised, call_of, reply_of, short_list, Unmoved, roomy, performed, calls_of, replies_of, replied, RestKept, course_left, PromisedAll}
-use Rattle.parts.specs.Calling.{left_join, promise}
+use Rattle.parts.specs.Calls.{Call, Reply, reply, left_by, replies, after_calls, part_reply, part_left, part_replies, part_after, Reached, AsPlanned, Promise, Promised, call_of, reply_of, calls_of, replies_of, replied, RestKept, course_left, PromisedAll}
+use Rattle.parts.specs.Calling.{promise}
 
 -- ---- lists
 -- the next place of a list whose front is written
 pub write_next : {X : Type 0} (front before : List X) (n : ℕ) (x : X) → length front ≡ n → n < length before → set (front ++ drop n before) n x ≡ (front ++ x ∷ []) ++ drop (n + 1) before
-write_next front before n x e h =
-    ap (λ t. set (front ++ t) n x) (drop_more before n x h)
-    ∙ set_at front _ (drop (n + 1) before) x n e
-    ∙ sym (append_assoc front (x ∷ []) (drop (n + 1) before))
+write_next front before n x e h = rw (drop_more before n x h) (set_at front _ (drop (n + 1) before) x n e ∙ sym (append_assoc front (x ∷ []) (drop (n + 1) before)))
 
 stay_next : {X : Type 0} (before after : List X) (n : ℕ) (x : X) → drop n after ≡ drop n before → drop (n + 1) (set after n x) ≡ drop (n + 1) before
-stay_next before after n x e =
-    drop-set-lt (n + 1) after n x (omega arith)
-    ∙ sym (drop-drop 1 n after)
-    ∙ ap (drop 1) e
-    ∙ drop-drop 1 n before
+stay_next before after n x e = simp (drop-set-lt (n + 1) after n x (omega arith)) (let a = drop-drop 1 n after in let b = drop-drop 1 n before in cc)
 
 -- ---- calls in turn
-replies_join : {S : Type 0} (reply-s : S → Call → Reply) (left : S → Call → S) (s : S) (ks ls : List Call) → in_turn reply-s left s (ks ++ ls) ≡ in_turn reply-s left s ks ++ in_turn reply-s left (left_by_all left s ks) ls
+replies_join : {S : Type 0} (reply-s : S → Call → Reply) (left : S → Call → S) (s : S) (ks ls : List Call) → scan left reply-s s (ks ++ ls) ≡ scan left reply-s s ks ++ scan left reply-s (fold left s ks) ls
 replies_join reply-s left s [] ls = refl
 replies_join reply-s left s (k ∷ ks) ls = ap (λ t. reply-s s k ∷ t) (replies_join reply-s left (left s k) ks ls)
 
-replies_count : {S : Type 0} (reply-s : S → Call → Reply) (left : S → Call → S) (s : S) (ks : List Call) → length (in_turn reply-s left s ks) ≡ length ks
+replies_count : {S : Type 0} (reply-s : S → Call → Reply) (left : S → Call → S) (s : S) (ks : List Call) → length (scan left reply-s s ks) ≡ length ks
 replies_count reply-s left s [] = refl
 replies_count reply-s left s (k ∷ ks) = ap suc (replies_count reply-s left (left s k) ks)
 
@@ -42,7 +36,7 @@ planned_join p earlier ks ls rs ss b d first then =
     record {
       answers_as =
           (λ i. first.answers_as i ++ then.answers_as i)
-          ∙ ap (λ u. replies t ks ++ replies u ls) (left_join left_by (begin p) earlier ks)
+          ∙ ap (λ u. replies t ks ++ replies u ls) (fold-append left_by (begin p) earlier ks)
           ∙ sym (replies_join reply left_by t ks ls);
       course_as = subst (λ z. Same d (course_of worked (after_calls (begin p) z))) (append_assoc earlier ks ls) then.course_as;
     }
@@ -63,16 +57,6 @@ promised_join : (p : Plan) (c b d : Course ℕ) (ks ls : List Call) (rs ss : Lis
 promised_join p c b d ks ls rs ss first then earlier r =
     let made = first earlier r in
     promise_join p earlier ks ls rs ss b d made (then (earlier ++ ks) made.reached)
-
--- What calls and ticks leave of a part as it was.
-pub record Kept (fresh fresh' : Course ℕ) (reads reads' emits emits' : ℕ) (plan plan' : Plan) : Type 0 where
-  pub fresh_kept : fresh' ≡ fresh
-  pub reads_kept : reads' ≡ reads
-  pub emits_kept : emits' ≡ emits
-  pub plan_kept : plan' ≡ plan
-
-pub kept_more : {fresh fresh' fresh'' : Course ℕ} {reads reads' reads'' emits emits' emits'' : ℕ} {plan plan' plan'' : Plan} → Kept fresh fresh' reads reads' emits emits' plan plan' → fresh'' ≡ fresh' → reads'' ≡ reads' → emits'' ≡ emits' → plan'' ≡ plan' → Kept fresh fresh'' reads reads'' emits emits'' plan plan''
-kept_more kept f r e p = record { fresh_kept = f ∙ kept.fresh_kept; reads_kept = r ∙ kept.reads_kept; emits_kept = e ∙ kept.emits_kept; plan_kept = p ∙ kept.plan_kept }
 
 -- ---- calls of the program
 -- What these calls have done to a part with the plan p and the fresh course, whose course was c and now is d.
@@ -112,7 +96,7 @@ done_more p fresh c b d calls before after done h k r e l told =
       course =
           l
           ∙ ap (λ z. part_left fresh z (call_of k)) done.course
-          ∙ sym (left_join (part_left fresh) c ks (call_of k ∷ []))
+          ∙ sym (fold-append (part_left fresh) c ks (call_of k ∷ []))
           ∙ ap (part_after fresh c) (sym pushed);
       promise = subst (λ z. Promised p c (calls_of (calls ++ k ∷ [])) z d) more (subst (λ z. Promised p c z (rs ++ reply_of r ∷ []) d) (sym pushed) (promised_join p c b d ks (call_of k ∷ []) rs (reply_of r ∷ []) done.promise told));
     }
@@ -140,18 +124,3 @@ done_next p p' fresh fresh' c b d calls before after i default r done same_p sam
     in
     subst (λ n. Done p fresh c d (take (i + 1) calls) before (set after n r)) count
     (subst (λ ks. Done p fresh c d ks before (set after (length (take i calls)) r)) (sym (take_more calls i default h)) more)
-
--- what is answered, and which calls were performed
-pub with_room : (calls : List Calling) (before : List Replying) → length calls ≤ length before → (Ok tt ≡ roomy (length calls) (length before)) × (performed calls before ≡ calls)
-with_room calls before h =
-    let test = le-leb (length calls) (length before) h in
-    (sym (cond-true (leb (length calls) (length before)) (Ok tt) (Err short_list) test), cond-true (leb (length calls) (length before)) calls [] test)
-
-pub without_room : (calls : List Calling) (before : List Replying) → length before < length calls → (Err short_list ≡ roomy (length calls) (length before)) × (performed calls before ≡ [])
-without_room calls before h =
-    let test = lt-leb (length calls) (length before) h in
-    (sym (cond-false (leb (length calls) (length before)) (Ok tt) (Err short_list) test), cond-false (leb (length calls) (length before)) calls [] test)
-
--- with room enough a part may move
-pub may_move : {A : Type 0} (needed room : ℕ) (before after : A) → needed ≤ room → Unmoved needed room before after
-may_move needed room before after h short = absurd (let z : ⊥ = omega arith in z)

@@ -7,11 +7,11 @@ use Rattle.parts.specs.Courses.{Answer}
 use Rattle.parts.specs.Operators.{both, under, Move, with_outputs, join_move, awake_answer}
 use Rattle.parts.specs.Trees.{Composition, part, parallel, encapsulation, inhibition, moved, StagedComposition, staged, refinement, Reacting, stage_of, answer_of, move_of, outputs, chosen_of, chosen}
 use Rattle.parts.specs.Readings.{Accepted, Settles, Site, at_part, at_staged, at_encapsulation, Reading, leaf, pair, set, asleep, open_to, Awake, here, left, right, itself, inside, free, moving, AwakeStaged, here_staged, base, refined, InOrder, Reads, read_part, read_parallel, read_encapsulation, read_asleep, read_free, read_moved, ReadsMove, read_staged, read_refined, read_unrefined, OneReading}
-use Rattle.parts.specs.Searching.{ok_same, ok_not, both_ok, Opened, opened, closed}
+use Rattle.parts.specs.Searching.{ok_same, both_ok, Opened, opened, closed}
 
 pub outputs_ok : (a : Answer Move) (o : ℕ) → outputs a ≡ Ok o → (v : Move) × (a ≡ Ok v) × (o ≡ v.0)
-outputs_ok (Ok v) o e = (v, refl, let same : v.0 ≡ o = cc in sym same)
-outputs_ok (Err f) o e = absurd (ok_not _ o f e refl)
+outputs_ok (Ok v) o e = (v, refl, cc)
+outputs_ok (Err f) o e = cc
 
 settles_from : (g place o : ℕ) (f : ℕ → Answer ℕ) → Opened g f place o → Settles g f
 settles_from g place o f h = (h.setting, (h.within, (h.inner, h.gives, h.settles)), λ t c. h.unique t c.1.0 c.0 c.1.1 c.1.2)

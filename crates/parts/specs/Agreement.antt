@@ -2,8 +2,9 @@
 use Rattle.std.specs.Prelude.{◌≡◌, ℕ, Bool, true, false, cond, List, [], ◌∷◌, ◌++◌, Ok, Err, ◌==◌, refl}
 use Rattle.std.proofs.Common.{sym, ap, subst, ◌∙◌, inl, inr}
 use Rattle.std.proofs.lemmas.Bool.{cond-true, cond-false, cond_both}
+use Rattle.std.specs.List.{AllZip}
 use Rattle.signals.specs.Sets.{union, subset, has}
-use Rattle.parts.specs.Lists.{In, Each}
+use Rattle.parts.specs.Lists.{In}
 use Rattle.parts.specs.Courses.{Answer, Course, run_on, run_of}
 use Rattle.parts.specs.Operators.{both, join, settings, under, settles, settled, only, onto, Move, with_outputs, join_move, awake_answer}
 use Rattle.parts.specs.Trees.{Composition, part, parallel, encapsulation, inhibition, moved, StagedComposition, staged, refinement, Reacting, stage_of, restarted, put_back, answer_of, move_of, next_of, went_of, outputs, chosen_of, chosen, over_after, course_of, moves_of}
@@ -13,7 +14,7 @@ use Rattle.parts.specs.Accepting.{outputs_ok}
 -- ---- agreement
 -- courses with equal answers to inputs in the relation
 abbrev pub Agree : {A : Type 0} → (ℕ → ℕ → Type 0) → Course A → Course A → Type 0
-Agree Q c d = (xs ys : List ℕ) (x y : ℕ) → Each Q xs ys → Q x y → c xs x ≡ d ys y
+Agree Q c d = (xs ys : List ℕ) (x y : ℕ) → AllZip Q xs ys → Q x y → c xs x ≡ d ys y
 
 -- Inputs that are in a relation are in another.
 abbrev pub Implies : (ℕ → ℕ → Type 0) → (ℕ → ℕ → Type 0) → Type 0

@@ -2,12 +2,13 @@
 use Rattle.std.specs.Prelude.{◌≡◌, ℕ, List, [], ◌∷◌, ◌++◌, Ok, Err, refl}
 use Rattle.std.proofs.Common.{sym, ap, subst, ◌∙◌}
 use Rattle.parts.specs.declared.call.Call.{Call as Calling}
-use Rattle.std.specs.List.{AllByRecursion}
+use Rattle.std.specs.List.{AllByRecursion, fold, scan}
+use Rattle.std.proofs.lemmas.List.Sums.{fold-append}
 use Rattle.std.proofs.ByRecursion.{All-append}
 use Rattle.parts.specs.Courses.{Answer, Course, after_answer, after, run_on, Set, Same}
 use Rattle.parts.specs.Trees.{answer_of, next_of, restarted, course_of}
 use Rattle.parts.specs.Plans.{Plan, worked, Working, begin, plan_course, Alike}
-use Rattle.parts.specs.Calls.{Call, look, step, restart, Reply, answered, Put, in_turn, left_by_all, reply, left_by, after_calls, part_reply, part_left, part_replies, part_after, Reached, AsPlanned, Promise, Promised, call_of}
+use Rattle.parts.specs.Calls.{Call, look, step, restart, Reply, answered, Put, reply, left_by, after_calls, part_reply, part_left, part_replies, part_after, Reached, AsPlanned, Promise, Promised, call_of}
 use Rattle.parts.specs.Accepting.{order, accepting, one_reading}
 use Rattle.parts.specs.Running.{run_after}
 use Rattle.parts.specs.Agreement.{restart_twice, restart_next}
@@ -18,17 +19,16 @@ abbrev course : Working → Course ℕ
 course = course_of worked
 
 -- ---- calls in turn
-pub left_join : {S : Type 0} (left : S → Call → S) (s : S) (ks ls : List Call) → left_by_all left s (ks ++ ls) ≡ left_by_all left (left_by_all left s ks) ls
-left_join left s [] ls = refl
-left_join left s (k ∷ ks) ls = left_join left (left s k) ks ls
+pub left_join : {S : Type 0} (left : S → Call → S) (s : S) (ks ls : List Call) → fold left s (ks ++ ls) ≡ fold left (fold left s ks) ls
+left_join left = fold-append left
 
 -- Two things in a relation that gives equal replies and is kept by each call.
 module _ {S T : Type 0} (reply_s : S → Call → Reply) (left_s : S → Call → S) (reply_t : T → Call → Reply) (left_t : T → Call → T) (Rel : S → T → Type 0) (gives : (s : S) (t : T) → Rel s t → (k : Call) → Put k → reply_s s k ≡ reply_t t k) (kept : (s : S) (t : T) → Rel s t → (k : Call) → Put k → Rel (left_s s k) (left_t t k)) where
-  same_replies : (s : S) (t : T) → Rel s t → (ks : List Call) → AllByRecursion Put ks → in_turn reply_s left_s s ks ≡ in_turn reply_t left_t t ks
+  same_replies : (s : S) (t : T) → Rel s t → (ks : List Call) → AllByRecursion Put ks → scan left_s reply_s s ks ≡ scan left_t reply_t t ks
   same_replies s t r [] w = refl
   same_replies s t r (k ∷ ks) w = λ i. gives s t r k w.0 i ∷ same_replies (left_s s k) (left_t t k) (kept s t r k w.0) ks w.1 i
 
-  still : (s : S) (t : T) → Rel s t → (ks : List Call) → AllByRecursion Put ks → Rel (left_by_all left_s s ks) (left_by_all left_t t ks)
+  still : (s : S) (t : T) → Rel s t → (ks : List Call) → AllByRecursion Put ks → Rel (fold left_s s ks) (fold left_t t ks)
   still s t r [] w = r
   still s t r (k ∷ ks) w = still (left_s s k) (left_t t k) (kept s t r k w.0) ks w.1
 
@@ -84,7 +84,7 @@ module _ (p : Plan) (fresh : Course ℕ) (is_fresh : Same fresh (plan_course p))
       let a = at_earlier c earlier r in
       record {
         answers_as = same_replies part_reply (part_left fresh) reply left_by At at_gives at_kept c (after_calls (begin p) earlier) a calls w;
-        course_as = subst (λ t. Same (part_after fresh c calls) (course t)) (sym (left_join left_by (begin p) earlier calls)) (still part_reply (part_left fresh) reply left_by At at_gives at_kept c (after_calls (begin p) earlier) a calls w).now;
+        course_as = subst (λ t. Same (part_after fresh c calls) (course t)) (sym (fold-append left_by (begin p) earlier calls)) (still part_reply (part_left fresh) reply left_by At at_gives at_kept c (after_calls (begin p) earlier) a calls w).now;
       }
 
 -- a part whose course is the fresh one is where no calls lead
@@ -122,7 +122,7 @@ reached_by p fresh f c earlier k h r = (promise p fresh f c earlier (k ∷ []) (
 pub promised : (p : Plan) (fresh c d : Course ℕ) (k : Call) (r : Reply) → fresh ≡ plan_course p → Put k → r ≡ part_reply c k → d ≡ part_left fresh c k → Promised p c (k ∷ []) (r ∷ []) d
 promised p fresh c d k r f h e l earlier z = subst (λ u. Promise p earlier (k ∷ []) (u ∷ []) d) (sym e) (subst (λ u. Promise p earlier (k ∷ []) (part_reply c k ∷ []) u) (sym l) (promise p fresh (λ xs x _ _. ap (λ g. g xs x) f) c earlier (k ∷ []) (h, tt) z))
 
--- The program's call k, which is the call j: what its contract says follows from what is known of j.
+-- the same for a call as the program has it
 pub call_facts : (p : Plan) (fresh c d : Course ℕ) (k : Calling) (j : Call) (r : Reply) → call_of k ≡ j → fresh ≡ plan_course p → Put j → r ≡ part_reply c j → d ≡ part_left fresh c j → (r ≡ part_reply c (call_of k)) × (d ≡ part_left fresh c (call_of k)) × Promised p c (call_of k ∷ []) (r ∷ []) d
 call_facts p fresh c d k j r e f h a l = (
   a ∙ ap (part_reply c) (sym e),

@@ -1,6 +1,6 @@
 -- Lists of calls on any part: what they answer and leave, and all that is promised of them. Assumes nothing: these are definitions.
-use Rattle.std.specs.Prelude.{◌≡◌, ℕ, ◌<◌, cond, List, [], ◌∷◌, ◌++◌, map, length, take, drop, Ok, Err, Result, nat_le}
-use Rattle.std.specs.List.{AllByRecursion}
+use Rattle.std.specs.Prelude.{◌≡◌, ℕ, ◌<◌, cond, List, [], ◌++◌, map, length, take, drop, Ok, Err, Result, nat_le}
+use Rattle.std.specs.List.{AllByRecursion, fold, scan}
 use Rattle.parts.specs.declared.call.Call.{Call as Calling}
 use Rattle.parts.specs.declared.call.Call.TheVariants.{Look, Step, Restart}
 use Rattle.parts.specs.declared.call.Reply.{Reply as Replying}
@@ -28,15 +28,7 @@ Put (look x) = Set x
 Put (step x) = Set x
 Put restart = Unit {0}
 
--- the replies to calls one after the other, and what they leave
-abbrev pub in_turn : {S : Type 0} → (S → Call → Reply) → (S → Call → S) → S → List Call → List Reply
-in_turn reply left s [] = []
-in_turn reply left s (k ∷ ks) = reply s k ∷ in_turn reply left (left s k) ks
-
-abbrev pub left_by_all : {S : Type 0} → (S → Call → S) → S → List Call → S
-left_by_all left s [] = s
-left_by_all left s (k ∷ ks) = left_by_all left (left s k) ks
-
+-- Calls one after the other: their replies are a scan, and what they leave is a fold.
 -- of a composition, worked out from lists
 abbrev pub reply : Working → Call → Reply
 reply t (look x) = answered (answer_of worked t x)
@@ -49,10 +41,10 @@ left_by t (step x) = run_on (answer_of worked) (next_of worked) (answer_of worke
 left_by t restart = restarted worked t
 
 abbrev pub replies : Working → List Call → List Reply
-replies = in_turn reply left_by
+replies = scan left_by reply
 
 abbrev pub after_calls : Working → List Call → Working
-after_calls = left_by_all left_by
+after_calls = fold left_by
 
 -- of a part, by its course and the fresh one
 abbrev pub part_reply : Course ℕ → Call → Reply
@@ -66,10 +58,10 @@ part_left fresh c (step x) = after c x
 part_left fresh c restart = fresh
 
 abbrev pub part_replies : Course ℕ → Course ℕ → List Call → List Reply
-part_replies fresh = in_turn part_reply (part_left fresh)
+part_replies fresh = scan (part_left fresh) part_reply
 
 abbrev pub part_after : Course ℕ → Course ℕ → List Call → Course ℕ
-part_after fresh = left_by_all (part_left fresh)
+part_after fresh = fold (part_left fresh)
 
 -- A part with the course c is where the earlier calls leave a plan that was just begun. One that was just made or
 -- restarted has the fresh course, and is where no calls lead.

@@ -1,5 +1,6 @@
 -- Counters. Assumes nothing: these are definitions.
-use Rattle.std.specs.Prelude.{◌≡◌, ℕ, ◌+◌, ◌%◌, ◌^◌, cond, ◌&&◌, List, length, Ok, Err, filter, Result, ◌==◌, nat_le, nat_lt}
+use Rattle.std.specs.Prelude.{◌≡◌, ℕ, ◌+◌, ◌%◌, ◌^◌, cond, ◌&&◌, List, Ok, Err, Result, ◌==◌, nat_le, nat_lt}
+use Rattle.std.specs.List.{count_by}
 use Rattle.parts.specs.declared.counter.Counter.{Counter}
 use Rattle.parts.specs.declared.counter.CounterRefusal.{CounterRefusal}
 use Rattle.parts.specs.declared.counter.CounterRefusal.TheVariants.{Number, Wire}
@@ -25,7 +26,7 @@ counter_course k = run_of (counter_answer k) (counter_next k)
 
 -- The ticks that have the wire.
 abbrev pub ticks_with : ℕ → List ℕ → ℕ
-ticks_with w xs = length (filter (λ x. has x w) xs)
+ticks_with w = count_by (λ x. has x w)
 
 -- The out wire is emitted at the k-th tick with the in wire exactly when the number divides k.
 abbrev pub Counts : Counting → Course ℕ → Type 0

@@ -1,9 +1,8 @@
 -- Courses: what a part answers to every list of inputs. Assumes nothing: these are definitions.
 -- An input and an output are sets of wires, by their numbers. An answer is an output or a fault.
 use Rattle.std.specs.Prelude.{◌≡◌, ℕ, ◌^◌, ◌<◌, true, List, [], ◌∷◌, ◌++◌, Ok, Err, Result}
-use Rattle.std.specs.List.{AllByRecursion}
+use Rattle.std.specs.List.{AllByRecursion, AllZip}
 use Rattle.parts.specs.declared.fault.Fault.{Fault}
-use Rattle.parts.specs.Lists.{Each}
 use Rattle.signals.specs.declared.wire_set.WireSet.{WireSet}
 use Rattle.signals.specs.Sets.{intersection, subset}
 
@@ -54,7 +53,7 @@ AlikeIn r x y = intersection x r ≡ intersection y r
 
 -- wires outside the set alter no answer, at any place of the list
 abbrev pub SameRead : ℕ → List ℕ → List ℕ → Type 0
-SameRead r = Each (AlikeIn r)
+SameRead r = AllZip (AlikeIn r)
 
 abbrev pub Unread : {A : Type 0} → ℕ → Course A → Type 0
 Unread r c = (xs ys : List ℕ) (x y : ℕ) → SameRead r xs ys → intersection x r ≡ intersection y r → c xs x ≡ c ys y

@@ -1,10 +1,12 @@
 pub mod Lists
 pub mod Courses
+pub mod Faults
 pub mod Operators
 pub mod Trees
 pub mod Readings
 pub mod Plans
 pub mod Stages
+pub mod Keeping
 pub mod Calls
 pub mod Runs
 pub mod Counters

@@ -2,10 +2,9 @@
 use Rattle.std.specs.Prelude.{◌≡◌, ℕ, ◌^◌, ◌<◌, ◌≤◌, true, List, [], ◌∷◌, Ok, bit_and, refl}
 use Rattle.std.proofs.Common.{sym, ap, subst, ◌∙◌, arith}
 use Rattle.std.proofs.lemmas.Nat.{and_le_r, or_lt}
-use Rattle.std.specs.List.{AllByRecursion}
+use Rattle.std.specs.List.{AllByRecursion, AllZip}
 use Rattle.std.proofs.lemmas.Bool.{eqb-true}
 use Rattle.signals.specs.Sets.{difference, subset, has}
-use Rattle.parts.specs.Lists.{Each}
 use Rattle.parts.specs.Courses.{Answer, Course, Set, Same, run_of}
 use Rattle.parts.specs.Operators.{under, Move}
 use Rattle.parts.specs.Trees.{parallel, encapsulation, inhibition, moved, refinement, stage_of, restarted, course_of, moves_of}
@@ -17,13 +16,13 @@ use Rattle.parts.specs.Working.{worked_steady, restart_begin, stage_begin}
 abbrev EqualSets : ℕ → ℕ → Type 0
 EqualSets x y = (x ≡ y) × Set x
 
-same_lists : (xs ys : List ℕ) → Each EqualSets xs ys → (xs ≡ ys) × AllByRecursion Set xs
+same_lists : (xs ys : List ℕ) → AllZip EqualSets xs ys → (xs ≡ ys) × AllByRecursion Set xs
 same_lists [] [] h = (refl, tt)
 same_lists [] (y ∷ ys) h = absurd h
 same_lists (x ∷ xs) [] h = absurd h
 same_lists (x ∷ xs) (y ∷ ys) h = let more = same_lists xs ys h.1 in ((λ i. h.0.0 i ∷ more.0 i), (h.0.1, more.1))
 
-each_itself : (xs : List ℕ) → AllByRecursion Set xs → Each EqualSets xs xs
+each_itself : (xs : List ℕ) → AllByRecursion Set xs → AllZip EqualSets xs xs
 each_itself [] h = tt
 each_itself (x ∷ xs) h = ((refl, h.0), each_itself xs h.1)
 

@@ -66,7 +66,7 @@ fired m = m.2
 
 -- the inside starts over: a written rule fired from k or to k
 abbrev pub starts_over : ℕ → ℕ → Move → Bool
-starts_over k before m = m.2 && (before == k || m.1 == k)
+starts_over k before m = fired m && (before == k || m.1 == k)
 
 -- the move with the inside's outputs
 abbrev pub with_outputs : Move → ℕ → Move

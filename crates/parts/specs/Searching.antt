@@ -1,5 +1,5 @@
 -- The search over the settings: what an encapsulation's answer says of its inside. Assumes nothing.
-use Rattle.std.specs.Prelude.{◌≡◌, ℕ, zero, suc, ◌+◌, ◌<◌, ◌≤◌, Bool, true, cond, ◌⊎◌, List, [], ◌∷◌, ◌++◌, Ok, Err, filter, ◌==◌, ◌≢◌, bit_and}
+use Rattle.std.specs.Prelude.{◌≡◌, ℕ, zero, suc, ◌+◌, ◌<◌, ◌≤◌, Bool, true, cond, ◌⊎◌, List, [], ◌∷◌, ◌++◌, Ok, Err, filter, map, ◌==◌, ◌≢◌, bit_and}
 use Rattle.std.proofs.Math.Path.{refl, ap, subst}
 use Rattle.std.proofs.Common.{sym, ◌∙◌, arith}
 use Rattle.std.proofs.Math.Logic.{inl, inr, ⊎_elim}
@@ -9,7 +9,7 @@ use Rattle.std.proofs.lemmas.Bool.{cond_both, cond-true, eqb-true, eq-eqb, cases
 use Rattle.signals.specs.Sets.{intersection, difference, subset}
 use Rattle.parts.specs.Lists.{In}
 use Rattle.parts.specs.Courses.{Answer}
-use Rattle.parts.specs.Operators.{foremost, both, settings, settles, settled, only, onto, encapsulate}
+use Rattle.parts.specs.Operators.{both, settings, settles, settled, only, onto, encapsulate}
 use Rattle.parts.specs.Readings.{Accepted, Settles}
 use Rattle.parts.specs.declared.fault.Fault.{Fault}
 
@@ -18,13 +18,13 @@ pub ok_same : {A : Type 0} (r : Answer A) (a b : A) → r ≡ Ok a → r ≡ Ok 
 ok_same r a b p q = cc
 
 pub ok_not : {A : Type 0} (r : Answer A) (a : A) (f : Fault) → r ≡ Ok a → r ≢ Err f
-ok_not r a f p q = let z : ◌≡◌ {A = ℕ} 0 1 = cc in omega arith
+ok_not r a f p q = cc
 
 pub both_ok : {A B C : Type 0} (f : A → B → C) (a : Answer A) (b : Answer B) (o : C) → both f a b ≡ Ok o → (p : A) × (q : B) × (a ≡ Ok p) × (b ≡ Ok q) × (o ≡ f p q)
-both_ok f (Ok a) (Ok b) o e = (a, b, refl, refl, let same : f a b ≡ o = cc in sym same)
-both_ok f (Ok a) (Err g) o e = absurd (ok_not _ o g e refl)
-both_ok f (Err d) (Ok b) o e = absurd (ok_not _ o d e refl)
-both_ok f (Err d) (Err g) o e = absurd (ok_not _ o (foremost d g) e refl)
+both_ok f (Ok a) (Ok b) o e = (a, b, refl, refl, cc)
+both_ok f (Ok a) (Err g) o e = cc
+both_ok f (Err d) (Ok b) o e = cc
+both_ok f (Err d) (Err g) o e = cc
 
 -- ---- elements of a list made of two
 pub in_append : {A : Type 0} (a : A) (xs ys : List A) → In a (xs ++ ys) → In a xs ⊎ In a ys
@@ -111,7 +111,7 @@ module _ (g : ℕ) (f : ℕ → Answer ℕ) where
     where
       settles_accepts : (a : Answer ℕ) (ps : List (ℕ × ℕ)) → settles g t a ≡ Ok ps → Accepted a
       settles_accepts (Ok o) ps e = (o, refl)
-      settles_accepts (Err d) ps e = absurd (ok_not _ ps d e refl)
+      settles_accepts (Err d) ps e = cc
 
   -- a pair among the hits: a setting in the list, consistent with that output
   Hit : ℕ × ℕ → Type 0
@@ -143,36 +143,34 @@ module _ (g : ℕ) (f : ℕ → Answer ℕ) where
       i)
 
   -- the settings that were found rise, so none was found twice
-  firsts : List (ℕ × ℕ) → List ℕ
-  firsts [] = []
-  firsts (p ∷ ps) = p.0 ∷ firsts ps
+  abbrev firsts : List (ℕ × ℕ) → List ℕ
+  firsts = map (λ p. p.0)
 
   hit_rising : (b s : ℕ) (a : Answer ℕ) (ps : List (ℕ × ℕ)) → b ≤ s → Rising (suc s) (firsts ps) → Rising b (firsts (hit g s a ++ ps))
-  unfolding hit firsts
+  unfolding hit
   hit_rising b s (Ok o) ps le r =
       cond_both (intersection o g == s) ((s, o) ∷ []) [] (λ t. Rising b (firsts (t ++ ps))) (λ _. (le, r)) (λ _. rising_from b (suc s) (firsts ps) (omega arith) r)
   hit_rising b s (Err d) ps le r = rising_from b (suc s) (firsts ps) (omega arith) r
 
   hits_rising : (b : ℕ) (ss : List ℕ) → Rising b ss → Rising b (firsts (hits g f ss))
-  unfolding hits firsts
+  unfolding hits
   hits_rising b [] r = tt
   hits_rising b (s ∷ ss) r = hit_rising b s (f s) (hits g f ss) r.0 (hits_rising (suc s) ss r.1)
 
   -- one pair and no other
   single : (b : ℕ) (ps : List (ℕ × ℕ)) (p : ℕ × ℕ) → Rising b (firsts ps) → In p ps → ((q : ℕ × ℕ) → In q ps → q.0 ≡ p.0) → ps ≡ p ∷ []
-  unfolding firsts
   single b [] p r i u = absurd i
   single b (q ∷ []) p r i u = ⊎_elim (λ e. ap (λ x. x ∷ []) e) (λ z. absurd z) i
   single b (q ∷ q' ∷ ps) p r i u = let e = u q (inl refl) in let d = u q' (inr (inl refl)) in absurd (omega (arith, r.1.0))
 
   only_ok : (place o : ℕ) (ps : List (ℕ × ℕ)) → only g place ps ≡ Ok o → (p : ℕ × ℕ) × (ps ≡ p ∷ []) × (o ≡ difference p.1 g)
-  only_ok place o [] e = absurd (ok_not _ o _ e refl)
-  only_ok place o (p ∷ []) e = (p, refl, let same : difference p.1 g ≡ o = cc in sym same)
-  only_ok place o (p ∷ q ∷ ps) e = absurd (ok_not _ o _ e refl)
+  only_ok place o [] e = cc
+  only_ok place o (p ∷ []) e = (p, refl, cc)
+  only_ok place o (p ∷ q ∷ ps) e = cc
 
   onto_ok : {A : Type 0} (a : Answer A) (k : A → Answer ℕ) (o : ℕ) → onto a k ≡ Ok o → (p : A) × (a ≡ Ok p) × (k p ≡ Ok o)
   onto_ok (Ok p) k o e = (p, refl, e)
-  onto_ok (Err d) k o e = absurd (ok_not _ o d e refl)
+  onto_ok (Err d) k o e = cc
 
   -- ---- what an encapsulation that accepts says of its inside
   pub record Opened (place o : ℕ) : Type 0 where

@@ -10,7 +10,8 @@ pub enum Call {
     Restart,
 }
 
-// What a call answers: a restart is never refused, and has no outputs.
+// What a call answers: a restart is never refused, and has no outputs. An enum of its own, and no Option: None would
+// not say that the part was restarted.
 #[derive(Clone, Copy, PartialEq, Eq, Debug)]
 pub enum Reply {
     Answer(Result<WireSet, Fault>),

@@ -2,7 +2,6 @@
 #![tactic(auto)]
 
 pub mod call;
-pub mod count;
 pub mod counter;
 pub mod fault;
 pub mod part;

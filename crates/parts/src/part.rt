@@ -2,6 +2,7 @@
 ghost use Rattle.std.specs.Prelude.{◌≡◌, ℕ, []};
 ghost use Rattle.parts.specs.Courses.{Course, after, Lawful, Unread, Named, told};
 ghost use Rattle.parts.specs.Plans.{Plan, plan_course};
+ghost use Rattle.parts.specs.Keeping.{Keeps};
 
 use crate::fault::Fault;
 use signals::WireSet;
@@ -36,18 +37,12 @@ pub trait Part {
     fn step(&mut self, input: WireSet) -> Result<WireSet, Fault>
         ensures value { told result ≡ course self.old [] input.bits }
         ensures course { course self.new ≡ after (course self.old) input.bits }
-        ensures fresh { fresh self.new ≡ fresh self.old }
-        ensures reads { reads self.new ≡ reads self.old }
-        ensures emits { emits self.new ≡ emits self.old }
-        ensures plan { plan self.new ≡ plan self.old };
+        ensures kept { Keeps fresh reads emits plan self.old self.new };
 
     // Start over.
     fn restart(&mut self)
         ensures course { course self.new ≡ fresh self.old }
-        ensures fresh { fresh self.new ≡ fresh self.old }
-        ensures reads { reads self.new ≡ reads self.old }
-        ensures emits { emits self.new ≡ emits self.old }
-        ensures plan { plan self.new ≡ plan self.old };
+        ensures kept { Keeps fresh reads emits plan self.old self.new };
 
     // What follows a refused input is answered as if that had not been put.
     ghost lawful: { (s : Self) → Lawful (course s) × Lawful (fresh s) };

@@ -5,6 +5,7 @@ ghost use Rattle.parts.specs.Operators.{Move};
 ghost use Rattle.parts.specs.Trees.{outputs};
 ghost use Rattle.parts.specs.Plans.{StagedPlan, plan_moves, told_stage};
 ghost use Rattle.parts.specs.Stages.{outputs_of, Stays, told_move};
+ghost use Rattle.parts.specs.Keeping.{Keeps, KeepsMoves};
 
 use crate::fault::Fault;
 use crate::part::Part;
@@ -12,6 +13,7 @@ use signals::WireSet;
 
 // A staged part also has a stage, numbered from 0. Its move does what a step does, and answers three things together:
 // the outputs, the next stage, and whether a written rule fired. Its own meaning is the course of its moves.
+// By a rule of the project a move and its prediction answer these as a tuple, and no struct.
 pub trait Staged: Part {
     // the course of moves now, and the one behind a restart
     ghost moves: { Self → Course Move };
@@ -50,28 +52,16 @@ pub trait Staged: Part {
         ensures course { Self.Part.course self.new ≡ after (Self.Part.course self.old) input.bits }
         ensures moves { moves self.new ≡ after (moves self.old) input.bits }
         ensures stage { stage self.new ≡ told_stage (moves self.old [] input.bits) (stage self.old) }
-        ensures fresh { Self.Part.fresh self.new ≡ Self.Part.fresh self.old }
-        ensures anew { anew self.new ≡ anew self.old }
-        ensures reads { Self.Part.reads self.new ≡ Self.Part.reads self.old }
-        ensures emits { Self.Part.emits self.new ≡ Self.Part.emits self.old }
-        ensures heeds { heeds self.new ≡ heeds self.old }
-        ensures sends { sends self.new ≡ sends self.old }
-        ensures plan { Self.Part.plan self.new ≡ Self.Part.plan self.old }
-        ensures layout { layout self.new ≡ layout self.old };
+        ensures kept { Keeps Self.Part.fresh Self.Part.reads Self.Part.emits Self.Part.plan self.old self.new }
+        ensures kept_moves { KeepsMoves anew heeds sends layout self.old self.new };
 
     // Start over, in stage 0.
     fn start_over(&mut self)
         ensures course { Self.Part.course self.new ≡ Self.Part.fresh self.old }
         ensures moves { moves self.new ≡ anew self.old }
         ensures stage { stage self.new ≡ 0 }
-        ensures fresh { Self.Part.fresh self.new ≡ Self.Part.fresh self.old }
-        ensures anew { anew self.new ≡ anew self.old }
-        ensures reads { Self.Part.reads self.new ≡ Self.Part.reads self.old }
-        ensures emits { Self.Part.emits self.new ≡ Self.Part.emits self.old }
-        ensures heeds { heeds self.new ≡ heeds self.old }
-        ensures sends { sends self.new ≡ sends self.old }
-        ensures plan { Self.Part.plan self.new ≡ Self.Part.plan self.old }
-        ensures layout { layout self.new ≡ layout self.old };
+        ensures kept { Keeps Self.Part.fresh Self.Part.reads Self.Part.emits Self.Part.plan self.old self.new }
+        ensures kept_moves { KeepsMoves anew heeds sends layout self.old self.new };
 
     // What follows a refused move is answered as if that had not been tried.
     ghost orderly: { (s : Self) → Lawful (moves s) × Lawful (anew s) };

@@ -1,12 +1,12 @@
 -- The lines of a wire list, one line more, and names as text. Assumes nothing.
 use Rattle.std.proofs.Common.{◌≡◌, ℕ, ◌+◌, ◌<◌, true, List, [], ◌∷◌, ◌++◌, map, length, get_or, take, is_ok, Ok, Err, IsUtf8, Result, sym, refl, ap, ◌∙◌, append_assoc, append-nil, arith, Bor, MatchResult}
-use Rattle.std.specs.List.{AllByRecursion}
+use Rattle.std.specs.List.{AllByRecursion, list_all}
 use Rattle.std.proofs.ByRecursion.{IsAscii-from_all}
 use Rattle.std.proofs.lemmas.Str.{IsUtf8-from_ascii}
 use Rattle.std.proofs.lemmas.List.{take_more, map-append, length-map, length-take-le}
 use Rattle.std.proofs.lemmas.Bool.{and_parts}
 use Rattle.std.proofs.lemmas.Bool.Decides.{nat_tests}
-use Rattle.format.specs.Names.{capital, name_byte, all_bytes, spelled}
+use Rattle.format.specs.Names.{capital, name_byte, spelled}
 use Rattle.reports.specs.Lines.{wire_line_text, wire_lines}
 use Rattle.reports.specs.Names.{shown}
 
@@ -17,7 +17,7 @@ capital_ascii b h = grind (arith, nat_tests)
 byte_ascii : (b : ℕ) → name_byte b ≡ true → b < 128
 byte_ascii b h = grind (arith, nat_tests)
 
-bytes_ascii : (bs : List ℕ) → all_bytes name_byte bs ≡ true → AllByRecursion (λ b. b < 128) bs
+bytes_ascii : (bs : List ℕ) → list_all name_byte bs ≡ true → AllByRecursion (λ b. b < 128) bs
 bytes_ascii [] h = tt
 bytes_ascii (b ∷ bs) h = let p = and_parts (name_byte b) _ h in (byte_ascii b p.0, bytes_ascii bs p.1)
 

@@ -10,7 +10,5 @@ use std::alloc::{AllocError, Global};
 pub fn load_line(heap: Global, error: RecipeError) -> Result<String, AllocError>
     ensures { IfOk result (λ s. string_bytes s ≡ load_line (refusal_number error.refusal) error.position) }
 {
-    let number = error.refusal.number();
-    let position = error.position;
-    format!(in heap; "load {number} {position}\n")
+    format!(in heap; "{error}\n")
 }

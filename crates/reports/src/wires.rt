@@ -1,53 +1,45 @@
 // The wire list of a recipe.
-ghost use Rattle.std.specs.Prelude.{◌≡◌, true, map, IfOk, string_bytes};
+ghost use Rattle.std.specs.Prelude.{◌≡◌, map, IfOk, string_bytes};
 ghost use Rattle.std.specs.List.{AllByRecursion};
-ghost use Rattle.format.specs.Names.{spelled};
-ghost use Rattle.reports.specs.Lines.{wire_line_text, wire_list_text, wire_report};
+ghost use Rattle.reports.specs.Lines.{wire_list_text, wire_report};
 ghost use Rattle.reports.specs.Names.{name_refs, shown, Spelled};
 
 use crate::lines::load_line;
 use format::recipe::{MAX_RECIPE, read_commands};
 use format::{Command, RecipeError, Refusal};
 use std::alloc::{AllocError, Global};
+use std::fmt::Write;
 use std::str;
 
 // The names of the wires that commands declare, in order: the same parts of the recipe that the commands hold.
 pub fn wire_names<'a>(heap: Global, commands: &[Command<'a>]) -> Result<Vec<&'a [u8]>, AllocError>
     ensures { IfOk result (λ v. v.items ≡ name_refs commands.now) }
 {
-    let mut names = Vec::new(heap);
-    for command in commands {
-        if let Command::Wire { name } = *command {
-            names.push(name)?;
-        }
-    }
-    Ok(names)
+    commands
+        .iter()
+        .filter_map(|command| match *command {
+            Command::Wire { name } => Some(name),
+            _ => None,
+        })
+        .collect(heap)
 }
 
-// A wire's line: its number and its name.
-fn wire_line(heap: Global, wire: usize, name: &[u8]) -> Result<String, AllocError>
-    requires { spelled name.now ≡ true }
-    ensures { IfOk result (λ s. string_bytes s ≡ wire_line_text wire name.now) }
-{
-    let name = str::from_utf8(name).unwrap();
-    format!(in heap; "{wire} {name}\n")
-}
-
-// A line that counts the wires, and a line for each.
+// A line that counts the wires, and a line for each, with its number and its name.
 fn list(heap: Global, names: &[&[u8]]) -> Result<String, AllocError>
     requires { AllByRecursion Spelled names.now }
     ensures { IfOk result (λ s. string_bytes s ≡ wire_list_text (map shown names.now)) }
 {
-    let count = names.len();
-    let mut text = format!(in heap; "wires {count}\n")?;
+    let mut text = format!(in heap; "wires {}\n", names.len())?;
+    // the index is the wire's number
     for (wire, name) in names.iter().enumerate() {
-        let line = wire_line(heap, wire, *name)?;
-        text.push_str(line.as_str())?;
+        let name = str::from_utf8(name).unwrap();
+        writeln!(text, "{wire} {name}")?;
     }
     Ok(text)
 }
 
-// What the wire list program prints of a file's bytes: the wire list, or the refusal of the recipe. Want of memory leaves nothing to print.
+// What the wire list program prints of a file's bytes: the wire list, or the refusal of the recipe. Want of memory
+// leaves nothing to print.
 pub fn wire_list(heap: Global, recipe: &[u8]) -> Result<String, AllocError>
     ensures { IfOk result (λ s. string_bytes s ≡ wire_report recipe.now) }
 {
@@ -62,12 +54,15 @@ pub fn wire_list(heap: Global, recipe: &[u8]) -> Result<String, AllocError>
     }
     match read_commands(heap, recipe) {
         Ok(commands) => {
-            let names = wire_names(heap, commands.as_slice())?;
-            list(heap, names.as_slice())
+            let names = wire_names(heap, &commands)?;
+            list(heap, &names)
         }
-        Err(error) => match error.refusal {
-            Refusal::OutOfMemory => Err(AllocError),
-            _ => load_line(heap, error),
-        },
+        Err(
+            RecipeError {
+                refusal: Refusal::OutOfMemory,
+                ..
+            },
+        ) => Err(AllocError),
+        Err(error) => load_line(heap, error),
     }
 }

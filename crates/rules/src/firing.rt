@@ -35,7 +35,7 @@ impl Rule {
         ensures value { result ≡ accord self.now other.now }
         ensures law { Decides result (Accord self.now other.now) }
     {
-        !self.can_fire_with(other) || (self.to == other.to && self.emits.bits == other.emits.bits)
+        !self.can_fire_with(other) || (self.to == other.to && self.emits == other.emits)
     }
 
     // Whether from and to are below the number of states.

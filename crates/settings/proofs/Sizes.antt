@@ -1,32 +1,33 @@
 -- How many wires a set has, and how many settings. Assumes nothing.
-use Rattle.std.proofs.Common.{◌≡◌, ℕ, zero, suc, ◌+◌, ◌-◌, ◌*◌, ◌/◌, ◌%◌, ◌^◌, ◌<◌, ◌≤◌, min, Bool, true, false, cond, eqb, List, [], ◌∷◌, ◌++◌, length, filter, sym, refl, ap, ◌∙◌, ⊎_elim, append-nil, add-mul, pow-suc, zero-add, zero-mul, mul-one, div-one, one-add, arith, length-append}
+use Rattle.std.proofs.Common.{◌≡◌, ℕ, zero, suc, ◌+◌, ◌-◌, ◌*◌, ◌/◌, ◌%◌, ◌^◌, ◌<◌, ◌≤◌, min, Bool, cond, eqb, List, [], ◌∷◌, ◌++◌, Err, length, take, filter, sym, refl, ap, subst, le_trans, le_of_eq, pow_mono, ◌∙◌, ⊎_elim, append-nil, length-take, add-mul, pow-suc, zero-add, zero-mul, mul-one, div-one, arith}
 use lib.Bits.{bit_and, and_step, and_le_l, and_le_r}
 use lib.Count.{ones, ones_step}
-use Rattle.std.specs.List.{range_with_len}
+use Rattle.std.specs.List.{range_with_len, count_by}
+use Rattle.std.proofs.lemmas.List.Sums.{length-filter, sum_by-cons}
 use Rattle.std.proofs.lemmas.Nat.{shr-shr}
 use Rattle.std.proofs.lemmas.List.Elements.{filter-append}
 use Rattle.std.proofs.lemmas.Bool.{cond-true, cond-false, eq-eqb, ne_eqb, cases_lt, cases_eq}
 use Rattle.std.proofs.lemmas.Bool.Decides.{nat_tests}
 use Rattle.signals.specs.Sets.{subset, has}
-use Rattle.parts.specs.Operators.{settings}
-use Rattle.settings.specs.Tried.{tried, wires_below, size}
+use Rattle.parts.specs.Courses.{Answer}
+use Rattle.parts.specs.Operators.{settings, only}
+use Rattle.settings.specs.Tried.{size}
 use Rattle.settings.proofs.Stepping.{counting_add, none_kept}
 
 -- ---- the wires of a set, and the ones of its number
 has_suc : (a w : ℕ) → has a (w + 1) ≡ has (a / 2) w
 has_suc a w = ap (λ n. eqb (n % 2) 1) (ap (λ k. a / 2 ^ k) (omega arith) ∙ sym (shr-shr a 1 w))
 
-length_if : {X : Type 0} (t : Bool) (x : X) (xs : List X) → length (cond t (x ∷ xs) xs) ≡ cond t 1 0 + length xs
-length_if true x xs = sym (one-add (length xs))
-length_if false x xs = sym (zero-add (length xs))
+-- one number more, which counts where the test holds of it
+count_cons : (test : ℕ → Bool) (x : ℕ) (xs : List ℕ) → count_by test (x ∷ xs) ≡ cond (test x) 1 0 + count_by test xs
+count_cons test = sum_by-cons (λ y. cond (test y) 1 0)
 
-one_lower : (a b n : ℕ) → length (filter (λ w. has a w) (range_with_len (b + 1) n)) ≡ length (filter (λ w. has (a / 2) w) (range_with_len b n))
+one_lower : (a b n : ℕ) → count_by (λ w. has a w) (range_with_len (b + 1) n) ≡ count_by (λ w. has (a / 2) w) (range_with_len b n)
 one_lower a b zero = refl
 one_lower a b (suc n) =
-    length_if (has a (b + 1)) (b + 1) _
-    ∙ ap (λ t. cond t 1 0 + length (filter (λ w. has a w) (range_with_len (b + 1 + 1) n))) (has_suc a b)
-    ∙ ap (λ m. cond (has (a / 2) b) 1 0 + m) (one_lower a (b + 1) n)
-    ∙ sym (length_if (has (a / 2) b) b _)
+    count_cons (λ w. has a w) (b + 1) (range_with_len (b + 1 + 1) n)
+    ∙ (λ i. cond (has_suc a b i) 1 0 + one_lower a (b + 1) n i)
+    ∙ sym (count_cons (λ w. has (a / 2) w) b (range_with_len (b + 1) n))
 
 lowest : (a : ℕ) → cond (has a 0) 1 0 ≡ a % 2
 lowest a = ap (λ n. cond (eqb (n % 2) 1) 1 0) (div-one a) ∙ grind (arith, nat_tests)
@@ -35,17 +36,16 @@ no_ones : ones 0 ≡ 0
 unfolding ones
 no_ones = refl
 
-pub ones_wires : (k a : ℕ) → a < 2 ^ k → length (wires_below k a) ≡ ones a
+ones_wires : (k a : ℕ) → a < 2 ^ k → count_by (λ w. has a w) (range_with_len 0 k) ≡ ones a
 ones_wires zero a b = let none : a ≡ 0 = omega arith in sym (ap ones none ∙ no_ones)
 ones_wires (suc k) a b =
-    length_if (has a 0) 0 _
-    ∙ ap (λ n. n + length (filter (λ w. has a w) (range_with_len 1 k))) (lowest a)
-    ∙ ap (λ n. a % 2 + n) (one_lower a 0 k ∙ ones_wires k (a / 2) (omega (arith, pow-suc 2 k)))
+    count_cons (λ w. has a w) 0 (range_with_len 1 k)
+    ∙ (λ i. lowest a i + (one_lower a 0 k ∙ ones_wires k (a / 2) (omega (arith, pow-suc 2 k))) i)
     ∙ sym (ones_step a)
 
 pub size_ones : (a : ℕ) → a < 2 ^ 64 → size a ≡ ones a
 unfolding size
-size_ones a b = ones_wires 64 a b
+size_ones a b = length-filter (λ w. has a w) (range_with_len 0 64) ∙ ones_wires 64 a b
 
 -- ---- the settings, by halves
 abbrev one : ℕ → ℕ → ℕ
@@ -81,22 +81,20 @@ pair h a =
     ∙ ap (λ n. n * (1 + h % 2)) (sym (one_not (h / 2) a ne)))
     (cases_eq (bit_and a (h / 2)) a)
 
-doubled : (h a n : ℕ) → length (filter (λ s. subset s h) (range_with_len (a * 2) (n * 2))) ≡ length (filter (λ s. subset s (h / 2)) (range_with_len a n)) * (1 + h % 2)
+doubled : (h a n : ℕ) → count_by (λ s. subset s h) (range_with_len (a * 2) (n * 2)) ≡ count_by (λ s. subset s (h / 2)) (range_with_len a n) * (1 + h % 2)
 doubled h a zero = sym (zero-mul (1 + h % 2))
 doubled h a (suc n) =
-    let test : ℕ → Bool = λ s. subset s h in
-    let half : ℕ → Bool = λ s. subset s (h / 2) in
     let two-more : suc n * 2 ≡ suc (suc (n * 2)) = omega arith in
     let on : a * 2 + 1 + 1 ≡ (a + 1) * 2 = omega arith in
-    let more : ℕ = length (filter half (range_with_len (a + 1) n)) in
+    let more : ℕ = count_by (λ s. subset s (h / 2)) (range_with_len (a + 1) n) in
     let regroup : one h (a * 2) + (one h (a * 2 + 1) + more * (1 + h % 2)) ≡ (one (h / 2) a + more) * (1 + h % 2) = omega (arith, pair h a, add-mul (one (h / 2) a) more (1 + h % 2)) in
-    ap (λ m. length (filter test (range_with_len (a * 2) m))) two-more
-    ∙ length_if (test (a * 2)) (a * 2) _
-    ∙ ap (λ m. one h (a * 2) + m) (length_if (test (a * 2 + 1)) (a * 2 + 1) _)
-    ∙ ap (λ b. one h (a * 2) + (one h (a * 2 + 1) + length (filter test (range_with_len b (n * 2))))) on
+    ap (λ m. count_by (λ s. subset s h) (range_with_len (a * 2) m)) two-more
+    ∙ count_cons (λ s. subset s h) (a * 2) (range_with_len (a * 2 + 1) (suc (n * 2)))
+    ∙ ap (λ m. one h (a * 2) + m) (count_cons (λ s. subset s h) (a * 2 + 1) (range_with_len (a * 2 + 1 + 1) (n * 2)))
+    ∙ ap (λ b. one h (a * 2) + (one h (a * 2 + 1) + count_by (λ s. subset s h) (range_with_len b (n * 2)))) on
     ∙ ap (λ m. one h (a * 2) + (one h (a * 2 + 1) + m)) (doubled h (a + 1) n)
     ∙ regroup
-    ∙ ap (λ m. m * (1 + h % 2)) (sym (length_if (half a) a _))
+    ∙ ap (λ m. m * (1 + h % 2)) (sym (count_cons (λ s. subset s (h / 2)) a (range_with_len (a + 1) n)))
 
 doubling : (x r : ℕ) → r < 2 → 2 ^ x * (1 + r) ≡ 2 ^ (r + x)
 doubling x r l = ⊎_elim
@@ -104,32 +102,52 @@ doubling x r l = ⊎_elim
     (λ z. let e : r ≡ 1 = omega arith in ap (λ n. 2 ^ x * (1 + n)) e ∙ sym (pow-suc 2 x) ∙ ap (λ n. 2 ^ n) (omega arith))
     (cases_lt r 1)
 
-pub subsets : (k h : ℕ) → h < 2 ^ k → length (tried h (2 ^ k)) ≡ 2 ^ ones h
+subsets : (k h : ℕ) → h < 2 ^ k → count_by (λ s. subset s h) (range_with_len 0 (2 ^ k)) ≡ 2 ^ ones h
 subsets zero h b = let none : h ≡ 0 = omega arith in sym (ap (λ n. 2 ^ n) (ap ones none ∙ no_ones))
 subsets (suc k) h b =
-    ap (λ m. length (tried h m)) (pow-suc 2 k)
+    ap (λ m. count_by (λ s. subset s h) (range_with_len 0 m)) (pow-suc 2 k)
     ∙ doubled h 0 (2 ^ k)
     ∙ ap (λ m. m * (1 + h % 2)) (subsets k (h / 2) (omega (arith, pow-suc 2 k)))
     ∙ doubling (ones (h / 2)) (h % 2) (omega arith)
     ∙ ap (λ m. 2 ^ m) (sym (ones_step h))
 
--- what is tried below n, and from n on
-tried_split : (h n m : ℕ) → tried h (n + m) ≡ tried h n ++ filter (λ s. subset s h) (range_with_len n m)
-tried_split h n m =
-    ap (filter (λ s. subset s h)) (counting_add 0 n m ∙ ap (λ b. range_with_len 0 n ++ range_with_len b m) (zero-add n))
-    ∙ filter-append (λ s. subset s h) (range_with_len 0 n) (range_with_len n m)
-
-pub tried_fewer : (h n m : ℕ) → n ≤ m → length (tried h n) ≤ length (tried h m)
-tried_fewer h n m l =
-    let e : m ≡ n + (m - n) = omega arith in
-    omega (arith, ap (λ x. length (tried h x)) e, ap length (tried_split h n (m - n)), length-append (tried h n) (filter (λ s. subset s h) (range_with_len n (m - n))))
-
 -- no setting is above the hidden wires
-pub settings_ones : (k h : ℕ) → h < 2 ^ k → length (settings h) ≡ 2 ^ ones h
+settings_ones : (k h : ℕ) → h < 2 ^ k → length (settings h) ≡ 2 ^ ones h
 settings_ones k h b =
     let m : ℕ = 2 ^ k - suc h in
     let test : ℕ → Bool = λ s. subset s h in
     let split : 2 ^ k ≡ suc h + m = omega arith in
     let above : filter test (range_with_len (suc h) m) ≡ [] = none_kept test (suc h) m (λ t l u. ne_eqb (bit_and t h) t (λ e. omega (arith, and_le_r t h))) in
-    let all : tried h (2 ^ k) ≡ settings h = ap (tried h) split ∙ tried_split h (suc h) m ∙ ap (λ xs. settings h ++ xs) above ∙ append-nil (settings h) in
-    sym (ap length all) ∙ subsets k h b
+    let all : filter test (range_with_len 0 (2 ^ k)) ≡ settings h =
+    ap (λ n. filter test (range_with_len 0 n)) split
+    ∙ ap (filter test) (counting_add 0 (suc h) m)
+    ∙ filter-append test (range_with_len 0 (suc h)) (range_with_len (0 + suc h) m)
+    ∙ ap (λ a. settings h ++ filter test (range_with_len a m)) (zero-add (suc h))
+    ∙ ap (λ xs. settings h ++ xs) above
+    ∙ append-nil (settings h) in
+    sym (ap length all) ∙ length-filter test (range_with_len 0 (2 ^ k)) ∙ subsets k h b
+
+-- hidden wires have at most 2 ^ 12 settings
+pub settings_few : (h : ℕ) → h < 2 ^ 64 → size h ≤ 12 → length (settings h) ≤ 4096
+settings_few h b few =
+    let small : ones h ≤ 12 = subst (λ n. n ≤ 12) (size_ones h b) few in
+    let power : 2 ^ ones h ≤ 2 ^ 12 = pow_mono small in
+    le_trans (le_of_eq (settings_ones 64 h b)) power
+
+-- of several that were found, the number
+pub several_is : (h place count : ℕ) (ps : List (ℕ × ℕ)) → 2 ≤ length ps → count ≡ min (length ps) 65535 → length ps ≤ 4096 → ◌≡◌ {A = Answer ℕ} (Err (record { cause = 42; place = place; count = count })) (only h place ps)
+several_is h place count [] two e l = absurd (omega arith)
+several_is h place count (p ∷ []) two e l = absurd (omega arith)
+several_is h place count (p ∷ q ∷ ps) two e l =
+    let same : count ≡ length (p ∷ q ∷ ps) = omega arith in
+    ap (λ n. Err (record { cause = 42; place = place; count = n })) same
+
+-- and up to the most that a count tells
+pub most_is : (h place count most : ℕ) (ps : List (ℕ × ℕ)) → 2 ≤ most → 2 ≤ length ps → count ≡ min (length ps) most → ◌≡◌ {A = Answer ℕ} (Err (record { cause = 42; place = place; count = count })) (only h place (take most ps))
+most_is h place count zero ps m two e = absurd (omega arith)
+most_is h place count (suc zero) ps m two e = absurd (omega arith)
+most_is h place count (suc (suc most)) [] m two e = absurd (omega arith)
+most_is h place count (suc (suc most)) (p ∷ []) m two e = absurd (omega arith)
+most_is h place count (suc (suc most)) (p ∷ q ∷ ps) m two e =
+    let same : count ≡ length (take (suc (suc most)) (p ∷ q ∷ ps)) = omega (arith, length-take (suc (suc most)) (p ∷ q ∷ ps)) in
+    ap (λ n. Err (record { cause = 42; place = place; count = n })) same

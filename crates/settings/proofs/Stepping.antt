@@ -6,8 +6,7 @@ use Rattle.std.proofs.lemmas.List.Elements.{filter-append}
 use Rattle.std.proofs.lemmas.Bool.{cond-true, cond-false, eqb-true, eq-eqb, ne_eqb, cases_lt, cases_eq, and_parts}
 use Rattle.signals.specs.Sets.{subset, difference, has}
 use Rattle.signals.proofs.Wires.{and_not, subset_wires, intersection_wires, difference_wires}
-use Rattle.parts.specs.Operators.{settings}
-use Rattle.settings.specs.Tried.{tried}
+use Rattle.settings.specs.Tried.{untried}
 
 -- ---- the step at k wires, with s below h
 abbrev pub next_of : ℕ → ℕ → ℕ → ℕ
@@ -78,7 +77,7 @@ next_within k h s =
     let m = 2 ^ k + s - h in
     eqb-true _ _ ((subset_wires (bit_and m h) h).1 (λ w e. (and_parts (has m w) (has h w) (sym (intersection_wires m h w) ∙ e)).1))
 
--- ---- what was tried
+-- ---- what is left to try
 pub counting_add : (a n m : ℕ) → range_with_len a (n + m) ≡ range_with_len a n ++ range_with_len (a + n) m
 counting_add a zero m = ap (range_with_len a) (zero-add m) ∙ ap (λ b. range_with_len b m) (sym (add-zero a))
 counting_add a (suc n) m =
@@ -90,33 +89,35 @@ none_kept test a zero h = refl
 none_kept test a (suc n) h =
     cond-false (test a) _ _ (h a (omega arith) (omega arith)) ∙ none_kept test (a + 1) n (λ t l u. h t (omega arith) (omega arith))
 
--- with s within h and no setting between s and n: below n there is one more
-one_more : (h s n : ℕ) → s < n → bit_and s h ≡ s → ((t : ℕ) → s < t → t < n → bit_and t h ≡ t → ⊥) → tried h n ≡ tried h s ++ s ∷ []
-one_more h s n l e gap =
+-- with s within h and no setting between s and n: s is left, and those from n on
+one_less : (h s n : ℕ) → s < n → n ≤ h → bit_and s h ≡ s → ((t : ℕ) → s < t → t < n → bit_and t h ≡ t → ⊥) → untried h s ≡ s ∷ untried h n
+one_less h s n l u e gap =
     let test : ℕ → Bool = λ t. subset t h in
     let j : ℕ = n - (s + 1) in
-    let split : n ≡ s + suc j = omega arith in
+    let m : ℕ = suc h - n in
+    let split : suc h - s ≡ suc (j + m) = omega arith in
     let none : filter test (range_with_len (s + 1) j) ≡ [] = none_kept test (s + 1) j (λ t a b. ne_eqb (bit_and t h) t (gap t (omega arith) (omega arith))) in
-    let here : filter test (range_with_len s (suc j)) ≡ s ∷ [] = cond-true (test s) _ _ (eq-eqb (bit_and s h) s e) ∙ ap (λ xs. s ∷ xs) none in
-    ap (λ x. filter test (range_with_len 0 x)) split
-    ∙ ap (filter test) (counting_add 0 s (suc j))
-    ∙ filter-append test (range_with_len 0 s) (range_with_len (0 + s) (suc j))
-    ∙ ap (λ b. tried h s ++ filter test (range_with_len b (suc j))) (zero-add s)
-    ∙ ap (λ xs. tried h s ++ xs) here
+    let at : s + 1 + j ≡ n = omega arith in
+    ap (λ x. filter test (range_with_len s x)) split
+    ∙ cond-true (test s) _ _ (eq-eqb (bit_and s h) s e)
+    ∙ ap (λ xs. s ∷ xs)
+    (ap (filter test) (counting_add (s + 1) j m)
+    ∙ filter-append test (range_with_len (s + 1) j) (range_with_len (s + 1 + j) m)
+    ∙ ap (λ xs. xs ++ filter test (range_with_len (s + 1 + j) m)) none
+    ∙ ap (λ b. filter test (range_with_len b m)) at)
 
-pub tried_next : (k h s : ℕ) → h < 2 ^ k → bit_and s h ≡ s → s < h → tried h (next_of k h s) ≡ tried h s ++ s ∷ []
-tried_next k h s b e l =
-    let n = next_least k h s b e l in
-    one_more h s (next_of k h s) n.above e (λ t a u w. omega (arith, n.least t w a))
-
-pub tried_all : (h : ℕ) → settings h ≡ tried h h ++ h ∷ []
-tried_all h = one_more h h (suc h) (omega arith) (and_self h) (λ t a u w. omega arith)
+-- the last setting is that of all hidden wires
+pub untried_last : (h s : ℕ) → s ≡ h → untried h s ≡ s ∷ []
+untried_last h s e =
+    let one : suc h - s ≡ 1 = omega arith in
+    ap (λ x. filter (λ t. subset t h) (range_with_len s x)) one
+    ∙ cond-true (subset s h) _ _ (eq-eqb (bit_and s h) s (ap (bit_and s) (sym e) ∙ and_self s))
 
 -- ---- the step as it wraps
 pub record Stepped (h s n : ℕ) : Type 0 where
   pub within : subset n h ≡ true
   pub above : s < n
-  pub tries : tried h n ≡ tried h s ++ s ∷ []
+  pub rest : untried h s ≡ s ∷ untried h n
 
 pub stepped : (k h s : ℕ) → h < 2 ^ k → subset s h ≡ true → (s ≡ h → ⊥) → Stepped h s (bit_and ((s + (2 ^ k - h)) % 2 ^ k) h)
 stepped k h s b w d =
@@ -126,5 +127,10 @@ stepped k h s b w d =
     let small : s + (2 ^ k - h) < 2 ^ k = omega arith in
     let same : s + (2 ^ k - h) ≡ 2 ^ k + s - h = omega arith in
     let is : (s + (2 ^ k - h)) % 2 ^ k ≡ 2 ^ k + s - h = mod-eq_of_lt small ∙ same in
-    subst (λ n. Stepped h s (bit_and n h)) (sym is)
-    (record { within = eq-eqb _ _ (next_within k h s); above = (next_least k h s b e l).above; tries = tried_next k h s b e l })
+    let n = next_least k h s b e l in
+    subst (λ m. Stepped h s (bit_and m h)) (sym is)
+    (record {
+      within = eq-eqb _ _ (next_within k h s);
+      above = n.above;
+      rest = one_less h s (next_of k h s) n.above (and_le_r (2 ^ k + s - h) h) e (λ t a u v. omega (arith, n.least t v a));
+    })

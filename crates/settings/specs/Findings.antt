@@ -1,17 +1,19 @@
 -- What was found under settings. Assumes nothing: these are definitions.
-use Rattle.std.specs.Prelude.{◌≡◌, ℕ, cond, List, [], ◌∷◌, ◌++◌, length, Ok, Err, Result, ◌==◌}
+use Rattle.std.specs.Prelude.{◌≡◌, ℕ, ◌≤◌, min, cond, List, [], ◌∷◌, ◌++◌, length, take, Ok, Err, Result, ◌==◌}
 use Rattle.signals.specs.declared.wire_set.WireSet.{WireSet}
 use Rattle.signals.specs.Sets.{intersection}
 use Rattle.parts.specs.declared.fault.Fault.{Fault}
 use Rattle.parts.specs.Courses.{Answer}
-use Rattle.parts.specs.Operators.{only}
+use Rattle.parts.specs.Operators.{settings, only}
 use Rattle.parts.specs.Trees.{chosen_of}
 use Rattle.settings.specs.declared.findings.Findings.{Findings}
+use Rattle.settings.specs.declared.findings.Findings.TheVariants.{Nothing, One, Several}
 
--- The findings tell of these consistent settings, each with what the inside emits: their number, and the first of them.
+-- The findings tell of these consistent settings, each with what the inside emits: of one setting both, of several the number, up to 65535.
 abbrev pub Finds : Findings → List (ℕ × ℕ) → Type 0
-Finds f [] = f.count ≡ 0
-Finds f (p ∷ ps) = (f.count ≡ length (p ∷ ps)) × (p ≡ (f.first.bits, f.outputs.bits))
+Finds Nothing ps = ps ≡ []
+Finds (One setting outputs) ps = ps ≡ (setting.bits, outputs.bits) ∷ []
+Finds (Several count) ps = (2 ≤ length ps) × (count ≡ min (length ps) 65535)
 
 -- a setting with what the inside emits, where it is consistent
 abbrev pub hit : ℕ → ℕ → ℕ → List (ℕ × ℕ)
@@ -31,6 +33,14 @@ abbrev pub ToldSetting : Result (WireSet × WireSet) Fault → ℕ → Type 0
 ToldSetting (Ok t) s = t.0.bits ≡ s
 ToldSetting (Err f) s = Unit {0}
 
--- of whatever was found: with exactly one, its setting and its outputs without the hidden wires; else a fault at the place
+-- What is told where these consistent settings were found: with exactly one, its setting and its outputs without the hidden wires; else a fault at the place, with how many there are.
+pub record ToldOf (h place : ℕ) (ps : List (ℕ × ℕ)) (r : Result (WireSet × WireSet) Fault) : Type 0 where
+  -- of more than a count can tell, it tells the most that it can
+  pub most : told_outputs r ≡ only h place (take 65535 ps)
+  -- which no search comes to
+  pub whole : length ps ≤ length (settings h) → told_outputs r ≡ only h place ps
+  pub setting : ToldSetting r (chosen_of (Ok ps))
+
+-- of whatever was found
 abbrev pub Tells : Findings → ℕ → ℕ → Result (WireSet × WireSet) Fault → Type 0
-Tells f h place r = (ps : List (ℕ × ℕ)) → Finds f ps → (told_outputs r ≡ only h place ps) × ToldSetting r (chosen_of (Ok ps))
+Tells f h place r = (ps : List (ℕ × ℕ)) → Finds f ps → ToldOf h place ps r

@@ -1,73 +1,59 @@
 // What was found under settings.
-ghost use Rattle.std.specs.Prelude.{◌≡◌, ◌+◌, ◌<◌, ◌≤◌, []};
-ghost use Rattle.settings.specs.Findings.{Finds, Taken, Tells};
+ghost use Rattle.settings.specs.Findings.{Taken, Tells};
 
+use crate::hidden::Hidden;
 use parts::Fault;
 use signals::WireSet;
 
-// No setting is consistent.
+// No setting is consistent. A cause is a number, and no enum: see `Fault`.
 pub const NONE_CONSISTENT: u8 = 41;
 // Several settings are consistent.
 pub const SEVERAL_CONSISTENT: u8 = 42;
 
-// A setting is consistent where the inside emits, of the hidden wires, exactly those of the setting.
-#[derive(Clone, Copy)]
-pub struct Findings {
-    // how many settings were consistent
-    pub(crate) count: u16,
-    // the first of them, and what the inside emits under it
-    pub(crate) first: WireSet,
-    pub(crate) outputs: WireSet,
+// What was found under the settings that were tried. A setting is consistent where the inside emits, of the hidden
+// wires, exactly those of the setting. They do not hold the hidden wires: a case that did would be nothing plainer,
+// since all three would have to, and whoever tries the settings has them.
+#[derive(Clone, Copy, PartialEq, Eq, Debug)]
+pub enum Findings {
+    // No setting was consistent.
+    Nothing,
+    // Exactly one was, with what the inside emits under it.
+    One { setting: WireSet, outputs: WireSet },
+    // Several were.
+    Several { count: u16 },
 }
 
 impl Findings {
-    // Nothing was found yet.
-    pub(crate) fn none() -> Findings
-        ensures value { Finds result [] }
-        ensures count { result.count ≡ 0 }
-    {
-        Findings {
-            count: 0,
-            first: WireSet { bits: 0 },
-            outputs: WireSet { bits: 0 },
-        }
-    }
-
     // With what the inside emits under one more setting.
-    pub(crate) fn take(self, hidden: WireSet, setting: WireSet, outputs: WireSet) -> Findings
-        requires { self.count + 1 < 65536 }
-        ensures value { Taken self hidden.bits setting.bits outputs.bits result }
-        ensures count { result.count ≤ self.count + 1 }
+    pub fn take(self, hidden: Hidden, setting: WireSet, outputs: WireSet) -> Findings
+        ensures { Taken self hidden setting.bits outputs.bits result }
     {
-        if outputs.intersection(hidden).bits != setting.bits {
+        if outputs.intersection(hidden.wires()) != setting {
             return self;
         }
-        if self.count == 0 {
-            return Findings {
-                count: 1,
-                first: setting,
-                outputs,
-            };
-        }
-        Findings {
-            count: self.count + 1,
-            first: self.first,
-            outputs: self.outputs,
+        match self {
+            Findings::Nothing => Findings::One { setting, outputs },
+            Findings::One { .. } => Findings::Several { count: 2 },
+            // a count that no longer fits stays the largest: the settings of 12 wires are fewer
+            Findings::Several { count } => Findings::Several {
+                count: count.saturating_add(1),
+            },
         }
     }
 
     // With exactly one consistent setting: that setting, and the outputs without the hidden wires.
-    pub(crate) fn answer(self, hidden: WireSet, place: u16) -> Result<(WireSet, WireSet), Fault>
-        ensures { Tells self hidden.bits place result }
+    pub fn answer(self, hidden: Hidden, place: u16) -> Result<(WireSet, WireSet), Fault>
+        ensures { Tells self hidden place result }
     {
-        match self.count {
-            0 => Err(Fault {
+        let wires = hidden.wires();
+        match self {
+            Findings::Nothing => Err(Fault {
                 cause: NONE_CONSISTENT,
                 place,
                 count: 0,
             }),
-            1 => Ok((self.first, self.outputs.difference(hidden))),
-            count => Err(Fault {
+            Findings::One { setting, outputs } => Ok((setting, outputs.difference(wires))),
+            Findings::Several { count } => Err(Fault {
                 cause: SEVERAL_CONSISTENT,
                 place,
                 count,

@@ -3,9 +3,8 @@
 
 pub mod findings;
 pub mod hidden;
-pub mod hiding;
-pub mod search;
-pub mod searching;
+pub mod settings;
 
+pub use findings::Findings;
 pub use hidden::{Hidden, TooManyHidden};
-pub use search::Search;
+pub use settings::Settings;

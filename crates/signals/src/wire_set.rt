@@ -7,12 +7,15 @@ ghost use Rattle.signals.specs.Sets.{has, union, intersection, difference, subse
 pub const WIRES: u8 = 64;
 
 // A set of wires, which are numbered 0 to 63: wire w weighs 2 to the power w.
-#[derive(Clone, Copy, PartialEq, Eq, Debug)]
+#[derive(Clone, Copy, Default, PartialEq, Eq, Debug)]
 pub struct WireSet {
     pub bits: u64,
 }
 
 impl WireSet {
+    // The set of no wire.
+    pub const EMPTY: WireSet = WireSet { bits: 0 };
+
     // The set that eight bytes write, the most significant first.
     pub fn from_be_bytes(bytes: [u8; 8]) -> WireSet
         ensures { result.bits ≡ number bytes }

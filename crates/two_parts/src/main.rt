@@ -6,14 +6,15 @@ use machines::{Counter, Machine};
 use parts::{Call, Fault, Part, Reply, perform, run};
 use rules::Rule;
 use signals::WireSet;
+use signals::wire_set::WIRES;
 use std::io;
 
-// The wires A and B, and neither.
+// The wires A and B, and neither. A program shows itself whole, so these are its own, as in the tests.
 const A: WireSet = WireSet { bits: 1 };
 
 const B: WireSet = WireSet { bits: 2 };
 
-const NONE: WireSet = WireSet { bits: 0 };
+const NONE: WireSet = WireSet::EMPTY;
 
 const TICKS: [WireSet; 8] = [A, A, NONE, A, A, NONE, A, A];
 
@@ -44,47 +45,34 @@ const BIT: [Rule; 2] = [
 ];
 
 // A tick's line: its number, and the wires that it emits, or a hyphen.
-fn print_tick(rt: &HostRuntime, tick: usize, outputs: WireSet) -> io::Result<()> {
+fn print_tick(rt: &impl Print, tick: usize, outputs: WireSet) -> io::Result<()> {
     print!(rt; "{tick}")?;
-    for wire in 0..64u8 {
-        if outputs.contains(wire) {
-            print!(rt; " {wire}")?;
-        }
+    for wire in (0..WIRES).filter(|&wire| outputs.contains(wire)) {
+        print!(rt; " {wire}")?;
     }
-    if outputs.bits == 0 {
+    if outputs == WireSet::EMPTY {
         print!(rt; " -")?;
     }
     println!(rt; "")
 }
 
-fn print_fault(rt: &HostRuntime, tick: usize, fault: Fault) -> io::Result<()> {
-    let Fault {
-        cause,
-        place,
-        count,
-    } = fault;
-    println!(rt; "{tick} fault {cause} {place} {count}")
-}
-
-// A line for each of the accepted ticks.
-fn print_ticks(rt: &HostRuntime, outputs: &[WireSet], ticks: usize) -> io::Result<()> {
-    for (i, set) in outputs.iter().take(ticks).enumerate() {
-        print_tick(rt, i + 1, *set)?;
-    }
-    Ok(())
+fn print_fault(rt: &impl Print, tick: usize, fault: Fault) -> io::Result<()> {
+    println!(rt; "{tick} {fault}")
 }
 
 // Runs a part over the ticks, and prints a line for each accepted one and for the fault that ended the run.
-fn print_run<P: Part>(rt: &HostRuntime, part: &mut P, outputs: &mut [WireSet]) -> io::Result<()> {
+fn print_run<P: Part>(rt: &impl Print, part: &mut P, outputs: &mut [WireSet]) -> io::Result<()> {
     let report = run(part, &TICKS, outputs);
-    print_ticks(rt, outputs, report.ticks)?;
-    match report.fault {
-        Some(fault) => print_fault(rt, report.ticks + 1, fault),
-        None => Ok(()),
+    for (i, set) in outputs.iter().take(report.ticks).enumerate() {
+        print_tick(rt, i + 1, *set)?;
     }
+    let Some(fault) = report.fault else {
+        return Ok(());
+    };
+    print_fault(rt, report.ticks + 1, fault)
 }
 
-fn print_reply(rt: &HostRuntime, number: usize, reply: Reply) -> io::Result<()> {
+fn print_reply(rt: &impl Print, number: usize, reply: Reply) -> io::Result<()> {
     match reply {
         Reply::Answer(Ok(outputs)) => print_tick(rt, number, outputs),
         Reply::Answer(Err(fault)) => print_fault(rt, number, fault),
@@ -93,8 +81,8 @@ fn print_reply(rt: &HostRuntime, number: usize, reply: Reply) -> io::Result<()> 
 }
 
 // Performs the calls on a part, and prints a line for each reply.
-fn print_calls<P: Part>(rt: &HostRuntime, part: &mut P) -> io::Result<()> {
-    let mut replies = [Reply::Restarted; 5];
+fn print_calls<P: Part>(rt: &impl Print, part: &mut P) -> io::Result<()> {
+    let mut replies = [Reply::Restarted; CALLS.len()];
     if let Err(fault) = perform(part, &CALLS, &mut replies) {
         return print_fault(rt, 1, fault);
     }
@@ -104,10 +92,10 @@ fn print_calls<P: Part>(rt: &HostRuntime, part: &mut P) -> io::Result<()> {
     Ok(())
 }
 
-fn print_both(rt: &HostRuntime) -> anyhow::Result<()> {
+fn print_both(rt: &impl Print) -> anyhow::Result<()> {
     let mut bit = Machine::new(2, &BIT).unwrap();
     rt.println("machine: from 0 to 1 on wire 0; from 1 to 0 on wire 0, emitting wire 1")?;
-    print_run(rt, &mut bit, &mut [NONE; 8])?;
+    print_run(rt, &mut bit, &mut [NONE; TICKS.len()])?;
     rt.println("the same into seven places")?;
     print_run(rt, &mut bit, &mut [NONE; 7])?;
     rt.println(
@@ -116,7 +104,7 @@ fn print_both(rt: &HostRuntime) -> anyhow::Result<()> {
     print_calls(rt, &mut bit)?;
     let mut third = Counter::new(0, 2, 3).unwrap();
     rt.println("counter: wire 2 at each third tick with wire 0")?;
-    print_run(rt, &mut third, &mut [NONE; 8])?;
+    print_run(rt, &mut third, &mut [NONE; TICKS.len()])?;
     Ok(())
 }
 

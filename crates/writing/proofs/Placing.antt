@@ -17,8 +17,8 @@ nothing_opened : Opened [] → ⊥
 nothing_opened (earlier, v, e, o) = none earlier e
   where
     none : (xs : List Word) → [] ≡ xs ++ v ∷ [] → ⊥
-    none [] q = let z : ◌≡◌ {A = ℕ} 0 1 = cc in omega arith
-    none (x ∷ xs) q = let z : ◌≡◌ {A = ℕ} 0 1 = cc in omega arith
+    none [] q = cc
+    none (x ∷ xs) q = cc
 
 head_placed : (within : Bool) (w : Word) (ws : List Word) → Placed within (w ∷ ws) → misplaced within w ≡ false
 head_placed within w ws h = ⊎_elim

@@ -7,26 +7,20 @@ use Rattle.writing.specs.declared.pen.Pen.{Pen}
 use Rattle.writing.specs.declared.pen.Pen.TheVariants.{Between, InMachine}
 use Rattle.format.specs.declared.refusal.Refusal.{Refusal}
 use Rattle.format.specs.declared.refusal.Refusal.TheVariants.{MisplacedRule}
-use Rattle.writing.specs.declared.writer.Writer.{Writer}
-use Rattle.writing.specs.declared.writer.Unwritten.{Unwritten}
 
 abbrev pub place : Pen → ℕ
-place (Between w) = w.position
-place (InMachine w) = w.position
+place (Between n) = n
+place (InMachine n) = n
 
 -- it is in a machine
 abbrev pub within : Pen → Bool
-within (Between w) = false
-within (InMachine w) = true
+within (Between n) = false
+within (InMachine n) = true
 
 -- an answer by the pen's position and state
 abbrev pub told : Result Pen Refusal → Result (ℕ × Bool) Refusal
 told (Ok p) = Ok (place p, within p)
 told (Err e) = Err e
-
-abbrev pub writer_told : Result Writer (Unwritten Writer) → Result (ℕ × Bool) Refusal
-writer_told (Ok w) = Ok (w.position, false)
-writer_told (Err u) = Err u.refusal
 
 abbrev pub with_state : Bool → Result ℕ Refusal → Result (ℕ × Bool) Refusal
 with_state b (Ok n) = Ok (n, b)

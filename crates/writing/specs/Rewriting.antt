@@ -40,11 +40,6 @@ first_refusal at within (w ∷ ws) e = cond (misplaced within w) (Some (record {
 abbrev pub refusal_of : List ℕ → Option RecipeError
 refusal_of bytes = let r = read_all today bytes in first_refusal 0 false r.words r.ending
 
--- the refusal in an answer
-abbrev pub error_of : Result (Unit {0}) RecipeError → Option RecipeError
-error_of (Ok _) = None
-error_of (Err e) = Some e
-
 -- what rewriting answers: the first refusal; or want of space, which is about the whole recipe; or the recipe's length
 abbrev pub space_answer : List ℕ → List ℕ → Result ℕ RecipeError
 space_answer bytes out = cond (nat_le (length bytes) (length out)) (Ok (length bytes)) (Err (record { refusal = NoSpace; position = 0 }))

@@ -1,22 +1,17 @@
--- What a writer answers. Assumes nothing: these are definitions.
-use Rattle.std.specs.Prelude.{ℕ, Ok, Err, Result}
+-- What a writer answers. A writer is seen as its position, and one that finished as the recipe's length. Assumes nothing: these are definitions.
+use Rattle.std.specs.Prelude.{◌≡◌, ℕ, List, IfOk, Ok, Err, Result}
+use Rattle.format.specs.Commands.{Word}
 use Rattle.format.specs.declared.refusal.Refusal.{Refusal}
-use Rattle.writing.specs.declared.writer.Writer.{Writer}
-use Rattle.writing.specs.declared.writer.MachineWriter.{MachineWriter}
-use Rattle.writing.specs.declared.writer.Finished.{Finished}
+use Rattle.writing.specs.Writing.{write_answer, written, Wrote}
 use Rattle.writing.specs.declared.writer.Unwritten.{Unwritten}
 
--- a writer between parts at a position, one in a machine, and one that finished a recipe of that length
-abbrev pub between : ℕ → Writer
-between n = record { position = n }
+-- a written command moves the writer on to its next state, behind the command; a refused one hands it back
+abbrev pub answered : ℕ → Result ℕ Refusal → Result ℕ (Unwritten ℕ)
+answered writer (Ok n) = Ok n
+answered writer (Err e) = Err (record { refusal = e; writer = writer })
 
-abbrev pub in_machine : ℕ → MachineWriter
-in_machine n = record { position = n }
-
-abbrev pub finished : ℕ → Finished
-finished n = record { length = n }
-
--- a written command moves the writer on to its next state; a refused one hands it back
-abbrev pub answered : {S W : Type 0} → (ℕ → S) → W → Result ℕ Refusal → Result S (Unwritten W)
-answered next writer (Ok n) = Ok (next n)
-answered next writer (Err e) = Err (record { refusal = e; writer = writer })
+-- What a call that writes the command `w` makes of a writer and an output: its answer, and the output then. A command that was written is read back, and stands behind those that were written before it.
+pub record Writes (w : Word) (writer : ℕ) (before : List ℕ) (r : Result ℕ (Unwritten ℕ)) (after : List ℕ) : Type 0 where
+  pub value : r ≡ answered writer (write_answer w writer before)
+  pub output : after ≡ written w writer before
+  pub law : IfOk r (λ n. Wrote w writer before n after)

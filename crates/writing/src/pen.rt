@@ -1,10 +1,10 @@
 // A writer in whichever of its two open states it is, for commands that are known only when they come.
 ghost use Rattle.std.specs.Prelude.{◌≡◌, false};
-ghost use Rattle.writing.specs.Pens.{place, within, told, pen_answer, pen_output, writer_told};
+ghost use Rattle.writing.specs.Pens.{place, within, told, pen_answer, pen_output};
 ghost use Rattle.format.specs.Reading.{is_end};
 ghost use Rattle.format.specs.Values.{word};
 
-use crate::writer::{MachineWriter, Unwritten, Writer};
+use crate::writer::{MachineWriter, Writer};
 use format::command::Command;
 use format::refusal::Refusal;
 
@@ -14,20 +14,10 @@ pub(crate) enum Pen {
     InMachine(MachineWriter),
 }
 
-// A pen between parts, or why nothing was written.
-fn between(written: Result<Writer, Unwritten<Writer>>) -> Result<Pen, Refusal>
-    ensures { told result ≡ writer_told written }
-{
-    match written {
-        Ok(writer) => Ok(Pen::Between(writer)),
-        Err(unwritten) => Err(unwritten.refusal),
-    }
-}
-
 impl Pen {
     // The writer between parts: one in a machine is closed.
     pub(crate) fn close(self) -> Writer
-        ensures { result.position ≡ place self }
+        ensures { result ≡ place self }
     {
         match self {
             Pen::Between(writer) => writer,
@@ -41,24 +31,19 @@ impl Pen {
         ensures value { told result ≡ pen_answer (within self) (word command.entry) (place self) out.old }
         ensures output { out.new ≡ pen_output (within self) (word command.entry) (place self) out.old }
     {
+        // a match, and no closure: the command is data that was read
         match command {
-            Command::Wire { name } => between(self.close().wire(out, name)),
-            Command::Machine { states } => match self.close().machine(out, states) {
-                Ok(writer) => Ok(Pen::InMachine(writer)),
-                Err(unwritten) => Err(unwritten.refusal),
-            },
+            Command::Wire { name } => Ok(Pen::Between(self.close().wire(out, name)?)),
+            Command::Machine { states } => Ok(Pen::InMachine(self.close().machine(out, states)?)),
             Command::Rule(rule) => match self {
                 Pen::Between(_) => Err(Refusal::MisplacedRule),
-                Pen::InMachine(writer) => match writer.rule(out, rule) {
-                    Ok(writer) => Ok(Pen::InMachine(writer)),
-                    Err(unwritten) => Err(unwritten.refusal),
-                },
+                Pen::InMachine(writer) => Ok(Pen::InMachine(writer.rule(out, rule)?)),
             },
-            Command::Par => between(self.close().par(out)),
-            Command::Hide { hidden } => between(self.close().hide(out, hidden)),
-            Command::Unless { wire } => between(self.close().unless(out, wire)),
-            Command::Refine { stage } => between(self.close().refine(out, stage)),
-            Command::End => unreachable(),
+            Command::Par => Ok(Pen::Between(self.close().par(out)?)),
+            Command::Hide { hidden } => Ok(Pen::Between(self.close().hide(out, hidden)?)),
+            Command::Unless { wire } => Ok(Pen::Between(self.close().unless(out, wire)?)),
+            Command::Refine { stage } => Ok(Pen::Between(self.close().refine(out, stage)?)),
+            Command::End => unreachable!(),
         }
     }
 }

@@ -1,9 +1,8 @@
 // Rewriting a recipe: reading it, and writing what was read.
 ghost use Rattle.std.specs.Prelude.{◌≡◌, ◌≤◌, ◌++◌, length, drop, None};
-ghost use Rattle.format.specs.Commands.{end};
-ghost use Rattle.format.specs.Reading.{is_end};
+ghost use Rattle.std.specs.Result.{result_err};
 ghost use Rattle.format.specs.Values.{word};
-ghost use Rattle.writing.specs.Rewriting.{misplaced, opens, error_of, refusal_of, rewrite_answer, rewritten, RewritesSame};
+ghost use Rattle.writing.specs.Rewriting.{misplaced, opens, refusal_of, rewrite_answer, rewritten, RewritesSame};
 
 use crate::pen::Pen;
 use crate::writer::Writer;
@@ -25,18 +24,14 @@ fn opens_machine(command: Command<'_>) -> bool
     matches!(command, Command::Machine { .. } | Command::Rule(_))
 }
 
-fn ends(command: Command<'_>) -> bool
-    ensures { result ≡ is_end (word command.entry) }
-{
-    matches!(command, Command::End)
-}
-
 // Reads a recipe to its end, and looks for a RULE that stands elsewhere than straight behind a MACHINE or a RULE.
 fn check(recipe: &[u8]) -> Result<(), RecipeError>
-    ensures { error_of result ≡ refusal_of recipe.now }
+    ensures { result_err result ≡ refusal_of recipe.now }
 {
     let mut reader = Reader::new(recipe);
+    // A flag, and no state with a value: all that is known of the command before is whether a RULE may follow it.
     let mut in_machine = false;
+    // A loop, and no `for` over `Commands`: a misplaced RULE is told with its position, which the reader has.
     loop {
         let position = reader.position();
         let command = reader.read()?;
@@ -46,7 +41,7 @@ fn check(recipe: &[u8]) -> Result<(), RecipeError>
                 position,
             });
         }
-        if ends(command) {
+        if command.is_end() {
             return Ok(());
         }
         in_machine = opens_machine(command);
@@ -62,26 +57,20 @@ fn copy(recipe: &[u8], out: &mut [u8]) -> usize
 {
     let mut reader = Reader::new(recipe);
     let mut pen = Pen::Between(Writer::new());
+    // A loop, and no `for` over `Commands`: END is written by another call than the rest, and what that gives is the answer.
     loop {
-        let command = match reader.read() {
-            Ok(command) => command,
-            Err(_) => unreachable(),
-        };
-        if ends(command) {
-            return match pen.close().end(out) {
-                Ok(finished) => finished.length(),
-                Err(_) => unreachable(),
-            };
+        let command = reader.read().unwrap();
+        if command.is_end() {
+            return pen.close().end(out).unwrap().length();
         }
-        pen = match pen.write(out, command) {
-            Ok(pen) => pen,
-            Err(_) => unreachable(),
-        };
+        pen = pen.write(out, command).unwrap();
     }
 }
 
-// Rewrites a recipe into `out`, and answers its length: what is written is what was read. Each RULE must stand straight behind a MACHINE or a RULE.
-// A refusal changes no byte of the output. Want of space is asked last, and is about position 0.
+// Rewrites a recipe into `out`, and answers its length: what is written is what was read. Each RULE must stand
+// straight behind a MACHINE or a RULE. A refusal changes no byte of the output. Want of space is asked last, and is
+// about position 0. The output is a slice of the caller's with a length, and no `Vec`: rewriting allocates nothing,
+// which is a rule of the project.
 pub fn rewrite(recipe: &[u8], out: &mut [u8]) -> Result<usize, RecipeError>
     ensures value { result ≡ rewrite_answer recipe.now out.old }
     ensures output { out.new ≡ rewritten recipe.now out.old }

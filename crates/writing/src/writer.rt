@@ -1,76 +1,112 @@
-// Writing a recipe. A writer is between parts, in a machine, or finished; each state is a type of its own, and a call moves a writer from one to the next.
-ghost use Rattle.std.specs.Prelude.{◌≡◌, ℕ, List, [], take, IfOk};
-ghost use Rattle.format.specs.Commands.{wire, machine, par, hide, unless, refine, end};
+// Writing a recipe. A writer is between parts, in a machine, or finished; each state is a type of its own, and a call
+// moves a writer from one to the next.
+ghost use Rattle.std.specs.Prelude.{◌≡◌, ℕ, List, [], ◌∷◌, take, IfOk};
+ghost use Rattle.format.specs.Commands.{byte, wire, machine, par, hide, unless, refine, end};
 ghost use Rattle.format.specs.Values.{rule_word};
-ghost use Rattle.writing.specs.Writing.{put_answer, put_output, write_answer, written, Holds, Wrote, EndedWith};
-ghost use Rattle.writing.specs.Writers.{answered, between, in_machine, finished};
+ghost use Rattle.writing.specs.Writing.{put_answer, put_output, write_answer, written, Holds, EndedWith};
+ghost use Rattle.writing.specs.Writers.{answered, Writes};
 
 use crate::encode;
-use format::command::Rule;
+use format::command::{Opcode, Rule};
 use format::name;
 use format::refusal::Refusal;
 use signals::WireSet;
+use std::marker::Model;
+
+// `Writer` and `MachineWriter` look like twins, and stay two: that each state is a moved type of its own, which holds
+// a plain number, is a rule of the project. It is another that no writer holds its output, so each call takes `out`.
+// Contracts see a writer as its position, and `Finished` as the recipe's length.
 
 // A writer between parts: it writes every command but RULE.
-#[derive(Drop)]
+#[derive(Debug, Drop)]
 pub struct Writer {
     position: usize,
 }
 
+impl Model for Writer {
+    ghost Value = { ℕ };
+
+    ghost view = { λ writer. writer.position };
+}
+
 // A writer in a machine: it writes that machine's rules, until it is closed.
-#[derive(Drop)]
+#[derive(Debug, Drop)]
 pub struct MachineWriter {
     position: usize,
 }
 
+impl Model for MachineWriter {
+    ghost Value = { ℕ };
+
+    ghost view = { λ writer. writer.position };
+}
+
 // A writer behind END: it writes nothing, and knows the recipe's length.
-#[derive(Drop)]
+#[derive(Debug, Drop)]
 pub struct Finished {
     length: usize,
 }
 
+impl Model for Finished {
+    ghost Value = { ℕ };
+
+    ghost view = { λ finished. finished.length };
+}
+
 // A refused write hands back the writer as it was.
-#[derive(Drop)]
+#[derive(Debug, Drop)]
 pub struct Unwritten<W> {
     pub refusal: Refusal,
     pub writer: W,
 }
 
+// The refusal alone, for callers that let the writer go.
+impl<W: Drop> From<Unwritten<W>> for Refusal {
+    ghost from_gives = { λ unwritten refusal. refusal ≡ unwritten.refusal };
+
+    fn from(unwritten: Unwritten<W>) -> Refusal {
+        unwritten.refusal
+    }
+}
+
+#[tactic(auto, using(crate::proofs::Outputs::writes))]
 impl Writer {
     // A writer at the output's first byte.
     pub fn new() -> Writer
-        ensures value { result.position ≡ 0 }
-        ensures law { (out : List ℕ) → Holds (take result.position out) [] }
+        ensures value { result ≡ 0 }
+        ensures law { (out : List ℕ) → Holds (take result out) [] }
     {
         Writer { position: 0 }
     }
 
     // The position of the next byte to be written.
     pub fn position(&self) -> usize
-        ensures { result ≡ self.now.position }
+        ensures { result ≡ self.now }
     {
         self.position
     }
 
-    // Writes the bytes of a command that leaves the writer between parts.
-    fn write(self, out: &mut [u8], bytes: &[u8]) -> Result<Writer, Unwritten<Writer>>
-        ensures value { result ≡ answered between self (put_answer self.position bytes.now out.old) }
-        ensures output { out.new ≡ put_output self.position bytes.now out.old }
+    // Writes a command, and stands behind it.
+    fn write(
+        self,
+        out: &mut [u8],
+        opcode: Opcode,
+        operands: &[u8],
+    ) -> Result<Writer, Unwritten<Writer>>
+        ensures value { result ≡ answered self (put_answer self (byte opcode ∷ operands.now) out.old) }
+        ensures output { out.new ≡ put_output self (byte opcode ∷ operands.now) out.old }
     {
-        match encode::put(out, self.position, bytes) {
-            Ok(position) => Ok(Writer { position }),
-            Err(refusal) => Err(Unwritten {
+        encode::put(out, self.position, opcode, operands)
+            .map(|position| Writer { position })
+            .map_err(|refusal| Unwritten {
                 refusal,
                 writer: self,
-            }),
-        }
+            })
     }
 
     // Writes WIRE.
     pub fn wire(self, out: &mut [u8], name: &[u8]) -> Result<Writer, Unwritten<Writer>>
-        ensures value { result ≡ answered between self (write_answer (wire name.now) self.position out.old) }
-        ensures output { out.new ≡ written (wire name.now) self.position out.old }
-        ensures law { IfOk result (λ w. Wrote (wire name.now) self.position out.old w.position out.new) }
+        ensures { Writes (wire name.now) self out.old result out.new }
     {
         if !name::is_well_formed(name) {
             return Err(Unwritten {
@@ -78,95 +114,78 @@ impl Writer {
                 writer: self,
             });
         }
-        self.write(out, &encode::wire_bytes(name))
+        self.write(out, Opcode::Wire, &encode::name_field(name))
     }
 
     // Writes MACHINE, and opens that machine: its rules come next.
     pub fn machine(self, out: &mut [u8], states: u8) -> Result<MachineWriter, Unwritten<Writer>>
-        ensures value { result ≡ answered in_machine self (write_answer (machine states) self.position out.old) }
-        ensures output { out.new ≡ written (machine states) self.position out.old }
-        ensures law { IfOk result (λ w. Wrote (machine states) self.position out.old w.position out.new) }
+        ensures { Writes (machine states) self out.old result out.new }
     {
-        match encode::put(out, self.position, &encode::machine_bytes(states)) {
-            Ok(position) => Ok(MachineWriter { position }),
-            Err(refusal) => Err(Unwritten {
-                refusal,
-                writer: self,
-            }),
-        }
+        let writer = self.write(out, Opcode::Machine, &[states])?;
+        Ok(MachineWriter {
+            position: writer.position,
+        })
     }
 
     // Writes PAR.
     pub fn par(self, out: &mut [u8]) -> Result<Writer, Unwritten<Writer>>
-        ensures value { result ≡ answered between self (write_answer par self.position out.old) }
-        ensures output { out.new ≡ written par self.position out.old }
-        ensures law { IfOk result (λ w. Wrote par self.position out.old w.position out.new) }
+        ensures { Writes par self out.old result out.new }
     {
-        self.write(out, &encode::par_bytes())
+        self.write(out, Opcode::Par, &[])
     }
 
     // Writes HIDE.
     pub fn hide(self, out: &mut [u8], hidden: WireSet) -> Result<Writer, Unwritten<Writer>>
-        ensures value { result ≡ answered between self (write_answer (hide hidden.bits) self.position out.old) }
-        ensures output { out.new ≡ written (hide hidden.bits) self.position out.old }
-        ensures law { IfOk result (λ w. Wrote (hide hidden.bits) self.position out.old w.position out.new) }
+        ensures { Writes (hide hidden.bits) self out.old result out.new }
     {
-        self.write(out, &encode::hide_bytes(hidden))
+        self.write(out, Opcode::Hide, &hidden.to_be_bytes())
     }
 
     // Writes UNLESS.
     pub fn unless(self, out: &mut [u8], wire: u8) -> Result<Writer, Unwritten<Writer>>
-        ensures value { result ≡ answered between self (write_answer (unless wire) self.position out.old) }
-        ensures output { out.new ≡ written (unless wire) self.position out.old }
-        ensures law { IfOk result (λ w. Wrote (unless wire) self.position out.old w.position out.new) }
+        ensures { Writes (unless wire) self out.old result out.new }
     {
-        self.write(out, &encode::unless_bytes(wire))
+        self.write(out, Opcode::Unless, &[wire])
     }
 
     // Writes REFINE.
     pub fn refine(self, out: &mut [u8], stage: u8) -> Result<Writer, Unwritten<Writer>>
-        ensures value { result ≡ answered between self (write_answer (refine stage) self.position out.old) }
-        ensures output { out.new ≡ written (refine stage) self.position out.old }
-        ensures law { IfOk result (λ w. Wrote (refine stage) self.position out.old w.position out.new) }
+        ensures { Writes (refine stage) self out.old result out.new }
     {
-        self.write(out, &encode::refine_bytes(stage))
+        self.write(out, Opcode::Refine, &[stage])
     }
 
     // Writes END, and finishes the recipe.
     pub fn end(self, out: &mut [u8]) -> Result<Finished, Unwritten<Writer>>
-        ensures value { result ≡ answered finished self (write_answer end self.position out.old) }
-        ensures output { out.new ≡ written end self.position out.old }
-        ensures law { IfOk result (λ w. EndedWith self.position out.old w.length out.new) }
+        ensures value { result ≡ answered self (write_answer end self out.old) }
+        ensures output { out.new ≡ written end self out.old }
+        ensures law { IfOk result (λ length. EndedWith self out.old length out.new) }
     {
-        match encode::put(out, self.position, &encode::end_bytes()) {
-            Ok(length) => Ok(Finished { length }),
-            Err(refusal) => Err(Unwritten {
-                refusal,
-                writer: self,
-            }),
-        }
+        let writer = self.write(out, Opcode::End, &[])?;
+        Ok(Finished {
+            length: writer.position,
+        })
     }
 }
 
 impl MachineWriter {
-    // Writes RULE.
+    // Writes RULE. The same answer as in `Writer::write`; one function for both would take the state, its position
+    // and the next state.
     pub fn rule(self, out: &mut [u8], rule: Rule) -> Result<MachineWriter, Unwritten<MachineWriter>>
-        ensures value { result ≡ answered in_machine self (write_answer (rule_word rule) self.position out.old) }
-        ensures output { out.new ≡ written (rule_word rule) self.position out.old }
-        ensures law { IfOk result (λ w. Wrote (rule_word rule) self.position out.old w.position out.new) }
+        ensures { Writes (rule_word rule) self out.old result out.new }
     {
-        match encode::put(out, self.position, &encode::rule_bytes(rule)) {
-            Ok(position) => Ok(MachineWriter { position }),
-            Err(refusal) => Err(Unwritten {
+        let operands = encode::rule_operands(rule);
+        encode::put(out, self.position, Opcode::Rule, &operands)
+            .map(|position| MachineWriter { position })
+            .map_err(|refusal| Unwritten {
                 refusal,
                 writer: self,
-            }),
-        }
+            })
     }
 
     // Closes the machine. This writes nothing.
     pub fn close(self) -> Writer
-        ensures { result.position ≡ self.position }
+        ensures { result ≡ self }
     {
         Writer {
             position: self.position,
@@ -177,7 +196,7 @@ impl MachineWriter {
 impl Finished {
     // The length of the recipe.
     pub fn length(&self) -> usize
-        ensures { result ≡ self.now.length }
+        ensures { result ≡ self.now }
     {
         self.length
     }

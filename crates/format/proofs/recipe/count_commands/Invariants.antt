@@ -1,9 +1,5 @@
-use Rattle.std.proofs.Common.{length}
 use Rattle.format.proofs.Keeping.{Counting}
 use Rattle.format.proofs.recipe.count_commands.Given as goal
 
 abbrev pub invariant-loop-command : goal.invariant-loop-command
-invariant-loop-command l = Counting l.recipe l.reader.rest.now l.reader.position l.count
-
-abbrev pub decreases-loop-command : goal.decreases-loop-command
-decreases-loop-command l = length l.reader.rest.now
+invariant-loop-command l = Counting l.recipe l.command-iterator l.count

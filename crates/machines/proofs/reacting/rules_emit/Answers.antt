@@ -1,13 +1,10 @@
-use Rattle.std.proofs.Common.{◌+◌, drop, ap, ◌∙◌}
-use Rattle.signals.specs.Sets.{union}
-use Rattle.machines.specs.Reactions.{united}
-use Rattle.machines.proofs.Reactions.{united_more, united_all}
+use Rattle.std.proofs.Common.{rules, tests, ap, ◌∙◌}
+use Rattle.std.proofs.lemmas.Iterator.{YieldsList-from_slice}
+use Rattle.std.proofs.lemmas.Iterator.Consumers.{fold_from_yields_List}
+use Rattle.machines.proofs.Reactions.{with_wires, bits-fold}
 use Rattle.machines.proofs.reacting.rules_emit.Goals as goal
 
-pub loop-rule-preserved : goal.loop-rule-preserved
-loop-rule-preserved c =
-    ap (λ n. union n (united (λ r. r.emits.bits) (drop (c.loop-rule.rule-index + 1) c.args.rules.now))) c.union-wires.ensures.value
-    ∙ united_more (λ r. r.emits.bits) c.args.rules.now c.loop-rule.wires.bits c.loop-rule.rule-index c.loop-rule.invariant _ c.loop-rule-test.true
-
 pub returns : goal.returns
-returns c = united_all (λ r. r.emits.bits) c.args.rules.now c.loop-rule.wires.bits c.loop-rule.rule-index c.loop-rule.invariant c.loop-rule-test.false
+returns c =
+    ap (λ w. w.bits) (fold_from_yields_List _ (with_wires (λ r. r.emits.bits)) _ _ c.fold.ensures.ran (YieldsList-from_slice c.args.rules.now cc) (λ a x b q k. search (rules, tests)))
+    ∙ bits-fold (λ r. r.emits.bits) (record { bits = 0 }) c.args.rules.now

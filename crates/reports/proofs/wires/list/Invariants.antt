@@ -4,4 +4,4 @@ use Rattle.reports.specs.Names.{shown}
 use Rattle.reports.proofs.wires.list.Given as goal
 
 abbrev pub invariant-loop-wire : goal.invariant-loop-wire
-invariant-loop-wire l = string_bytes l.text ≡ wires_line (length l.names) ++ wire_lines 0 (map shown (take l.wire l.names))
+invariant-loop-wire l = string_bytes l.text ≡ wires_line (length l.names) ++ wire_lines 0 (map shown (take l.wire-counter l.names))

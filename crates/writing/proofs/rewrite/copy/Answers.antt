@@ -1,70 +1,49 @@
-use Rattle.std.proofs.Common.{◌≡◌, ℕ, ◌+◌, length, drop, Ok, sym, ap, ◌∙◌, arith, length-drop}
-use Rattle.format.specs.Commands.{end, today}
-use Rattle.format.specs.Reading.{got, first_read}
-use Rattle.format.specs.Values.{word, taken}
-use Rattle.format.proofs.Keeping.{got_from, refused_from, bytes_from}
-use Rattle.format.proofs.Variants.{ok_not_err, same_ok}
-use Rattle.writing.specs.Writers.{answered, finished}
+use Rattle.std.proofs.Common.{◌≡◌, ℕ, Bool, length, Ok, Err, Result, sym, refl, ap, ◌∙◌}
+use Rattle.std.specs.Result.{IsOk}
+use Rattle.format.specs.Commands.{end}
+use Rattle.format.specs.Values.{word, words_told}
+use Rattle.format.specs.declared.refusal.Refusal.{Refusal}
+use Rattle.format.proofs.Variants.{same_ok}
+use Rattle.writing.specs.Pens.{place, told}
 use Rattle.writing.specs.Writing.{write_answer, written}
-use Rattle.writing.proofs.Checking.{clear_some, clear_within}
-use Rattle.writing.proofs.Copying.{copied_start, not_refused, pen_accepts, copied_more, end_answer, end_output}
+use Rattle.writing.specs.Writers.{answered}
+use Rattle.writing.specs.declared.pen.Pen.{Pen}
+use Rattle.writing.proofs.Checking.{Took, took, clear_shorter}
+use Rattle.writing.proofs.Copying.{pen_accepts, copied_more, end_answer, end_output}
 use Rattle.writing.proofs.rewrite.copy.Goals as goal
-use Rattle.writing.proofs.rewrite.copy.Goals.{In-Ok, After-end}
+use Rattle.writing.proofs.rewrite.copy.Goals.{After-unwrap-command}
 
 -- the command that was read
-here : (c : In-Ok) → (n : ℕ) × (first_read today c.loop-command.reader.rest.now ≡ got (word c.in-Ok.command) n)
-here c = got_from _ (word c.in-Ok.command) c.loop-command.reader.position c.in-Ok.ensures.value
+here : (c : After-unwrap-command) → Took c.loop-reader.reader.rest.now c.loop-reader.reader.position (word c.unwrap-command.result) c.read.new.self.rest.now c.read.new.self.position
+here c = took _ _ _ _ _ (ap words_told (sym c.unwrap-command.ensures) ∙ c.read.ensures.value) c.read.ensures.rest c.read.ensures.position
 
--- END has space
-last : (c : After-end) → (n : ℕ) → first_read today c.loop-command.reader.rest.now ≡ got (word c.in-Ok.command) n → write_answer end c.close.result.position c.loop-command.out ≡ Ok (length c.args.recipe.now)
-last c n is =
-    ap (λ k. write_answer end k c.loop-command.out) c.close.ensures
-    ∙ end_answer _ _ _ _ _ _ _ c.loop-command.invariant c.requires.checked c.requires.room (word c.in-Ok.command) n is (sym c.if-ends.ensures)
+ok_told : (r : Result Pen Refusal) (p : ℕ × Bool) → told r ≡ Ok p → IsOk r
+ok_told (Ok pen) p e = refl
+ok_told (Err x) p e = cc
 
-pub loop-command-init : goal.loop-command-init
-loop-command-init c = copied_start c.args.recipe.now c.args.out.now _ _ _ (ap (λ r. r.now) c.new-reader.ensures.rest) c.new-reader.ensures.position c.new.ensures.value (bytes_from c.args.recipe.now c.type_inv.recipe)
+pub returns-then-is_end-clause-value : goal.returns-then-is_end-clause-value
+returns-then-is_end-clause-value c =
+    let t = here (goal.at.returns-then-is_end-clause-value c).After-unwrap-command in
+    let told = end_answer c.loop-reader.invariant t (sym c.if-is_end.ensures) in
+    let is = c.end.ensures.value ∙ ap (λ k. answered k (write_answer end k c.loop-reader.out)) c.close.ensures ∙ ap (answered (place c.loop-reader.pen)) told in
+    c.length.ensures ∙ same_ok _ c.unwrap.result (length c.args.recipe.now) c.unwrap.ensures is
 
-pub unreachable-requires : goal.unreachable-requires
-unreachable-requires c =
-    let e = c.in-Err.field-0 in
-    not_refused _ _ _ _ _ _ _ c.loop-command.invariant c.requires.checked c.requires.room e (refused_from (first_read today c.loop-command.reader.rest.now) e c.loop-command.reader.position c.in-Err.ensures.value)
+pub returns-then-is_end-clause-output : goal.returns-then-is_end-clause-output
+returns-then-is_end-clause-output c =
+    let t = here (goal.at.returns-then-is_end-clause-output c).After-unwrap-command in
+    c.end.ensures.output
+    ∙ ap (λ k. written end k c.loop-reader.out) c.close.ensures
+    ∙ end_output c.loop-reader.invariant t (sym c.if-is_end.ensures)
 
-pub unreachable-requires-in-Err-end : goal.unreachable-requires-in-Err-end
-unreachable-requires-in-Err-end c =
-    let n = here (goal.at.unreachable-requires-in-Err-end c).In-Ok in
-    ok_not_err _ _ c.in-Err-end.field-0 (ap (answered finished c.close.result) (last (goal.at.unreachable-requires-in-Err-end c).After-end n.0 n.1)) (sym c.in-Err-end.ensures.value)
+pub unwrap-pen-requires : goal.unwrap-pen-requires
+unwrap-pen-requires c =
+    let t = here (goal.at.unwrap-pen-requires c).After-unwrap-command in
+    ok_told c.write.result _ (c.write.ensures.value ∙ pen_accepts c.loop-reader.invariant t)
 
-pub returns-then-ends : goal.returns-then-ends
-returns-then-ends c =
-    let n = here (goal.at.returns-then-ends c).In-Ok in
-    let told = c.in-Ok-end.ensures in
-    let out = c.loop-command.out in
-    record {
-      value = c.length.ensures ∙ ap (λ f. f.length) (same_ok _ c.in-Ok-end.finished (finished (length c.args.recipe.now)) (sym told.value) (ap (answered finished c.close.result) (last (goal.at.returns-then-ends c).After-end n.0 n.1)));
-      output = told.output ∙ ap (λ k. written end k out) c.close.ensures ∙ end_output _ _ _ _ _ _ _ c.loop-command.invariant c.requires.checked c.requires.room (word c.in-Ok.command) n.0 n.1 (sym c.if-ends.ensures);
-    }
+pub loop-reader-smaller : goal.loop-reader-smaller
+loop-reader-smaller c = clear_shorter c.loop-reader.invariant.clear (here (goal.at.loop-reader-smaller c).After-unwrap-command)
 
-pub unreachable-requires-in-Err-write : goal.unreachable-requires-in-Err-write
-unreachable-requires-in-Err-write c =
-    let n = here (goal.at.unreachable-requires-in-Err-write c).In-Ok in
-    pen_accepts _ _ _ _ _ _ _ c.loop-command.invariant c.requires.checked c.requires.room (word c.in-Ok.command) n.0 n.1 c.in-Err-write.field-0 c.in-Err-write.ensures.value
-
-pub loop-command-smaller : goal.loop-command-smaller
-loop-command-smaller c =
-    let n = here (goal.at.loop-command-smaller c).In-Ok in
-    let bs = c.loop-command.reader.rest.now in
-    let rest = c.in-Ok.ensures.rest ∙ ap (λ r. drop (taken r) bs) n.1 in
-    let some = clear_some _ _ _ _ c.loop-command.invariant.clear (word c.in-Ok.command) n.0 n.1 in
-    let within = clear_within _ _ _ _ c.loop-command.invariant.clear (word c.in-Ok.command) n.0 n.1 in
-    omega (arith, ap length rest, length-drop n.0 bs)
-
-pub loop-command-preserved : goal.loop-command-preserved
-loop-command-preserved c =
-    let n = here (goal.at.loop-command-preserved c).In-Ok in
-    let reader = c.loop-command.reader in
-    let told = c.in-Ok.ensures in
-    copied_more _ _ _ _ _ _ _ c.loop-command.invariant c.requires.checked c.requires.room (word c.in-Ok.command) n.0 n.1 _ _ _ _ (sym c.if-ends.ensures)
-    (told.rest ∙ ap (λ r. drop (taken r) reader.rest.now) n.1)
-    (told.position ∙ ap (λ r. reader.position + taken r) n.1)
-    c.in-Ok-write.ensures.value
-    c.in-Ok-write.ensures.output
+pub loop-reader-preserved : goal.loop-reader-preserved
+loop-reader-preserved c =
+    let t = here (goal.at.loop-reader-preserved c).After-unwrap-command in
+    copied_more c.loop-reader.invariant t _ _ (sym c.if-is_end.ensures) (ap told (sym c.unwrap-pen.ensures) ∙ c.write.ensures.value) c.write.ensures.output

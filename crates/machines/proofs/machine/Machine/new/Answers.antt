@@ -1,43 +1,59 @@
-use Rattle.std.proofs.Common.{length, take, Ok, sym, ap, ◌∙◌, subst}
+use Rattle.std.proofs.Common.{◌≡◌, Err, is_ok, sym, refl, ap, ◌∙◌, subst, arith}
 use Rattle.std.proofs.lemmas.Result.{err_from_is_err_and}
-use Rattle.machines.specs.Reactions.{Determined, KeepsStates}
 use Rattle.parts.specs.Leaves.{part_begins}
-use Rattle.parts.proofs.Staging.{outputs_lawful}
-use Rattle.machines.specs.Machines.{machine_moves, machine_course, NeverRefuses}
+use Rattle.machines.specs.Reactions.{Determined, KeepsStates}
+use Rattle.machines.specs.Questions.{Proper, machine_question}
+use Rattle.machines.specs.Machines.{machine_course}
+use Rattle.machines.specs.Courses.{outputs_are_lawful, never_refuses}
 use Rattle.machines.proofs.Allowed.{told_first}
-use Rattle.machines.proofs.Determinism.{question_proper, refused_facts, made_facts, question_kept}
-use Rattle.machines.specs.Courses.{machine_lawful, never_refuses}
+use Rattle.machines.proofs.Determinism.{determined, question_proper, proper_question, keeps_states}
 use Rattle.machines.proofs.machine.Machine.new.Goals as goal
+use Rattle.machines.proofs.machine.Machine.new.Goals.{In_ok-check_machine, After-unwrap, After-from_residual}
 
-pub returns-in_err-check_machine : goal.returns-in_err-check_machine
-returns-in_err-check_machine c =
-    let p = err_from_is_err_and c.from_residual.result c.from_residual.ensures.1 in
-    let facts = refused_facts c.args.states c.args.rules.now c.in_err-check_machine.field-0.0 c.in_err-check_machine.ensures in
-    rw (p.1, p.2) (record { value = facts.0; proper = facts.1; refused = told_first c.args.states c.args.rules.now c.in_err-check_machine.field-0.0 c.in_err-check_machine.ensures; begins = tt; determined = tt; states = tt; accepts = tt })
+-- nothing that was asked was refused
+proper : (c : In_ok-check_machine) → Proper c.args.states c.args.rules.now
+proper c = question_proper c.args.states c.args.rules.now (sym c.in_ok-check_machine.ensures)
 
-pub keep-requires : goal.keep-requires
-keep-requires c = (question_proper c.args.states c.args.rules.now (sym c.in_ok-check_machine.ensures)).few_rules
+-- the rules that are kept are those that were handed in
+same : (c : After-unwrap) → c.unwrap.result.items ≡ c.args.rules.now
+same c = (rw c.unwrap.ensures at c.try_from.ensures).0
 
-pub invariant_of-result : goal.invariant_of-result
-invariant_of-result c =
-    let proper = question_proper c.args.states c.args.rules.now (sym c.in_ok-check_machine.ensures) in
-    record {
-      fits = proper.few_rules;
-      exists = proper.some_state;
-      proper = question_kept c.args.states (length c.args.rules.now) c.args.rules.now c.keep.result c.in_ok-check_machine.field-0 c.in_ok-check_machine.ensures c.keep.ensures;
-    }
+-- the refusal that is told is that of the questions
+told : (c : After-from_residual) → c.from_residual.result ≡ Err c.in_err-check_machine.field-0.0
+told c = let p = err_from_is_err_and c.from_residual.result c.from_residual.ensures.1 in p.1 ∙ ap Err p.2
 
-pub returns : goal.returns
-returns c =
-    let rules = c.args.rules.now in
-    let kept = take (length rules) c.keep.result in
-    let facts = made_facts c.args.states rules c.in_ok-check_machine.field-0 c.in_ok-check_machine.ensures in
-    record {
-      value = ap (λ rs. Ok (c.args.states, rs, 0)) c.keep.ensures ∙ facts.0;
-      proper = facts.1;
-      refused = tt;
-      begins = part_begins (machine_course kept 0) (outputs_lawful (machine_moves kept 0) (machine_lawful kept 0));
-      determined = subst Determined (sym c.keep.ensures) facts.2;
-      states = subst (KeepsStates c.args.states) (sym c.keep.ensures) facts.3;
-      accepts = subst NeverRefuses (sym c.keep.ensures) (never_refuses rules);
-    }
+pub returns-in_err-check_machine-clause-proper : goal.returns-in_err-check_machine-clause-proper
+returns-in_err-check_machine-clause-proper c =
+    let refused = c.in_err-check_machine.ensures in
+    rw (told (goal.at.returns-in_err-check_machine-clause-proper c).After-from_residual)
+    ((λ t. cc), λ p. let allowed = proper_question c.args.states c.args.rules.now p in cc)
+
+pub returns-in_err-check_machine-clause-refused : goal.returns-in_err-check_machine-clause-refused
+returns-in_err-check_machine-clause-refused c =
+    rw (told (goal.at.returns-in_err-check_machine-clause-refused c).After-from_residual)
+    (told_first c.args.states c.args.rules.now c.in_err-check_machine.field-0.0 c.in_err-check_machine.ensures)
+
+pub unwrap-requires : goal.unwrap-requires
+unwrap-requires c = let few = (proper (goal.at.unwrap-requires c).In_ok-check_machine).few_rules in grind (arith, few, c.try_from.ensures)
+
+pub invariant_of-result-clause-proper : goal.invariant_of-result-clause-proper
+invariant_of-result-clause-proper c =
+    ap (λ rs. is_ok (machine_question c.args.states rs)) (same (goal.at.invariant_of-result-clause-proper c).After-unwrap)
+    ∙ ap is_ok (sym c.in_ok-check_machine.ensures)
+
+pub returns-clause-proper : goal.returns-clause-proper
+returns-clause-proper c = ((λ _. proper (goal.at.returns-clause-proper c).In_ok-check_machine), λ _. refl)
+
+pub returns-clause-begins : goal.returns-clause-begins
+returns-clause-begins c = let kept = c.unwrap.result.items in part_begins (machine_course kept 0) (outputs_are_lawful kept 0)
+
+pub returns-clause-determined : goal.returns-clause-determined
+returns-clause-determined c =
+    subst Determined (sym (same (goal.at.returns-clause-determined c).After-unwrap)) (determined c.args.rules.now (proper (goal.at.returns-clause-determined c).In_ok-check_machine).in_accord)
+
+pub returns-clause-states : goal.returns-clause-states
+returns-clause-states c =
+    subst (KeepsStates c.args.states) (sym (same (goal.at.returns-clause-states c).After-unwrap)) (keeps_states c.args.states c.args.rules.now (proper (goal.at.returns-clause-states c).In_ok-check_machine))
+
+pub returns-clause-accepts : goal.returns-clause-accepts
+returns-clause-accepts c = never_refuses c.unwrap.result.items

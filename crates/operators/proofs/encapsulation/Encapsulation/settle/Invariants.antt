@@ -1,10 +1,7 @@
-use Rattle.std.proofs.Common.{◌-◌, []}
+use Rattle.std.proofs.Common.{[]}
 use Rattle.parts.specs.Operators.{under}
-use Rattle.settings.specs.Found.{hidden_of, setting_of, Sofar}
+use Rattle.settings.specs.Found.{Sofar}
 use Rattle.operators.proofs.encapsulation.Encapsulation.settle.Given as goal
 
-abbrev pub invariant-loop-outputs : goal.invariant-loop-outputs
-invariant-loop-outputs g l = Sofar l.self.hidden.set.bits (λ s. g.P.Part.course l.self.inside [] (under l.self.hidden.set.bits l.input.bits s)) l.search
-
-abbrev pub decreases-loop-outputs : goal.decreases-loop-outputs
-decreases-loop-outputs g l = hidden_of l.search - setting_of l.search
+abbrev pub invariant-loop-setting : goal.invariant-loop-setting
+invariant-loop-setting g l = Sofar l.self.hidden (λ s. g.P.Part.course l.self.inside [] (under l.self.hidden l.input.bits s)) l.setting-iterator l.findings

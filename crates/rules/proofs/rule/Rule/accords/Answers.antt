@@ -14,7 +14,7 @@ pub returns-then-self-other : goal.returns-then-self-other
 returns-then-self-other c =
     let a = c.args.self.now in
     let b = c.args.other.now in
-    let facts = accord_facts a b _ (ap (λ t. t && eqb a.emits.bits b.emits.bits) (sym (eq-eqb a.to b.to c.if-self-other.true)) ∙ ap (λ t. not t || (eqb a.to b.to && eqb a.emits.bits b.emits.bits)) c.if-not-can_fire_with.ensures) in
+    let facts = accord_facts a b _ (c.eq.ensures ∙ ap (λ t. t && eqb a.emits.bits b.emits.bits) (sym (eq-eqb a.to b.to c.if-self-other.true)) ∙ ap (λ t. not t || (eqb a.to b.to && eqb a.emits.bits b.emits.bits)) c.if-not-can_fire_with.ensures) in
     record { value = facts.0; law = facts.1 }
 
 pub returns-else-self-other : goal.returns-else-self-other

@@ -1,11 +1,15 @@
-use Rattle.writing.proofs.Outputs.{told}
+use Rattle.std.proofs.Common.{◌≡◌, ◌∷◌, refl, rules, arith}
+use Rattle.std.proofs.lemmas.Grind.{common_steps}
+use Rattle.format.specs.Commands.{byte}
 use Rattle.format.specs.Values.{rule_word}
-use Rattle.writing.specs.Writers.{answered, in_machine}
-use Rattle.std.proofs.Common.{refl, ap, rules}
+use Rattle.format.specs.declared.command.Opcode.TheVariants.{Rule}
+use Rattle.writing.specs.Writing.{put_answer}
+use Rattle.writing.specs.Writers.{answered}
+use Rattle.writing.proofs.Outputs.{writes}
 use Rattle.writing.proofs.writer.MachineWriter.rule.Goals as goal
 
-pub returns-in-Ok : goal.returns-in-Ok
-returns-in-Ok c =
-    let put = c.in-Ok.ensures in
-    let t = told in_machine (λ s. s.position) (λ _. refl) c.args.self (rule_word c.args.rule) c.args.self.position _ c.args.out.now _ _ (ap (answered in_machine c.args.self) put.value) put.output c.rule_bytes.ensures refl (search rules, search rules, search rules, search rules, search rules) refl in
-    record { value = t.value; output = t.output; law = t.law }
+pub returns : goal.returns
+returns c =
+    let value : c.map_err.result ≡ answered c.args.self (put_answer c.args.self (byte Rule ∷ c.rule_operands-operands.result) c.args.out.now) = grind (arith, common_steps) in
+    let output = rw c.self.view_is at c.put.ensures.output in
+    writes (rule_word c.args.rule) _ _ _ _ _ value output c.rule_operands-operands.ensures (search rules) refl

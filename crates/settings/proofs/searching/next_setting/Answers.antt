@@ -1,8 +1,0 @@
-use Rattle.std.proofs.Common.{rules}
-use Rattle.settings.proofs.Stepping.{stepped}
-use Rattle.settings.proofs.searching.next_setting.Goals as goal
-
-pub returns : goal.returns
-returns c =
-    let next = stepped 64 c.args.hidden.bits c.args.setting.bits (search rules) c.requires.within c.requires.not_last in
-    record { within = next.within; above = next.above; tried = next.tries }

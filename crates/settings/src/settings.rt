@@ -1,0 +1,59 @@
+// The settings of hidden wires.
+ghost use Rattle.std.specs.Prelude.{◌≡◌, ◌<◌, ◌∷◌, true, ◌≢◌, length};
+ghost use Rattle.std.specs.Iterator.{YieldsFirstBy, at_most};
+ghost use Rattle.signals.specs.Sets.{subset};
+ghost use Rattle.settings.specs.Tried.{untried};
+
+use signals::WireSet;
+use std::marker::Model;
+
+// The settings that are left, by rising value. To contracts it is their list.
+#[derive(Drop)]
+pub struct Settings {
+    pub(crate) hidden: WireSet,
+    // the setting that comes next, if one is left
+    pub(crate) next: Option<WireSet>,
+}
+
+impl Model for Settings {
+    ghost use Rattle.std.specs.Prelude.{◌≡◌, ℕ, List, true};
+
+    ghost Value = { List ℕ };
+
+    ghost use Rattle.settings.specs.Tried.{left, is_within};
+
+    ghost view = { λ s. left s.hidden.bits s.next };
+
+    ghost invariant = { λ s. is_within s.hidden.bits s.next ≡ true };
+}
+
+// The least larger subset of the hidden wires.
+fn next_setting(hidden: WireSet, setting: WireSet) -> WireSet
+    requires within { subset setting.bits hidden.bits ≡ true }
+    requires not_last { setting.bits ≢ hidden.bits }
+    ensures within { subset result.bits hidden.bits ≡ true }
+    ensures above { setting.bits < result.bits }
+    ensures untried { untried hidden.bits setting.bits ≡ setting.bits ∷ untried hidden.bits result.bits }
+{
+    WireSet {
+        bits: setting.bits.wrapping_sub(hidden.bits) & hidden.bits,
+    }
+}
+
+impl Iterator for Settings {
+    type Item = WireSet;
+
+    ghost next_gives = { YieldsFirstBy (λ setting. setting.bits) (λ s. s) };
+
+    ghost remaining = { λ s. at_most (length s) };
+
+    fn next(&mut self) -> Option<WireSet> {
+        let setting = self.next?;
+        self.next = if setting == self.hidden {
+            None
+        } else {
+            Some(next_setting(self.hidden, setting))
+        };
+        Some(setting)
+    }
+}
