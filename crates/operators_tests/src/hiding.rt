@@ -120,6 +120,7 @@ fn twelve_hidden_wires(rt: HostRuntime) -> Result<(), Fail> {
     let Err(unmade) = Encapsulation::new(WireSet { bits: 0x1_fff0 }, 0, machine) else {
         return Err(Fail::new("13 wires were hidden"));
     };
+    // the number, and not the case: it is what people know, and the test is to show it
     assert_eq!(rt; unmade.refusal.number(), 16);
     assert_eq!(rt; unmade.inside.look(A), Ok(B));
     Ok(())

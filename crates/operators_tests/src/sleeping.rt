@@ -48,6 +48,7 @@ fn wire_64(rt: HostRuntime) -> Result<(), Fail> {
     let Err(unmade) = Inhibition::new(64, machine) else {
         return Err(Fail::new("wire 64 was taken"));
     };
+    // the number, and not the case: it is what people know, and the test is to show it
     assert_eq!(rt; unmade.refusal.number(), 37);
     assert_eq!(rt; unmade.inside.look(A), Ok(B));
     Ok(())

@@ -16,7 +16,7 @@ pub struct Counter {
     ghost below: { tally < number },
 }
 
-// Why there is no such counter, with the number by which people know it.
+// Why there is no such counter, with the number by which people know the refusal.
 #[derive(Clone, Copy, PartialEq, Eq, Debug)]
 pub enum CounterRefusal {
     // The number to count to is not 1 to 60,000.

@@ -10,9 +10,9 @@ pub const NONE_CONSISTENT: u8 = 41;
 // Several settings are consistent.
 pub const SEVERAL_CONSISTENT: u8 = 42;
 
-// What was found under the settings that were tried. A setting is consistent where the inside emits, of the hidden
-// wires, exactly those of the setting. They do not hold the hidden wires: a case that did would be nothing plainer,
-// since all three would have to, and whoever tries the settings has them.
+// What was found under the settings that were tried. A setting is consistent where the inside emits, of the hidden wires,
+// exactly those of the setting. They do not hold the hidden wires, which would be no plainer: each of the three cases would
+// need them, and whoever tries the settings has them.
 #[derive(Clone, Copy, PartialEq, Eq, Debug)]
 pub enum Findings {
     // No setting was consistent.
@@ -34,14 +34,15 @@ impl Findings {
         match self {
             Findings::Nothing => Findings::One { setting, outputs },
             Findings::One { .. } => Findings::Several { count: 2 },
-            // a count that no longer fits stays the largest: the settings of 12 wires are fewer
+            // a count that no longer fitted would stay the largest; the settings of 12 wires are too few for that
             Findings::Several { count } => Findings::Several {
                 count: count.saturating_add(1),
             },
         }
     }
 
-    // With exactly one consistent setting: that setting, and the outputs without the hidden wires.
+    // With exactly one consistent setting: that setting, and the outputs without the hidden wires. Otherwise a fault at the
+    // place: 41, or 42 with how many there are.
     pub fn answer(self, hidden: Hidden, place: u16) -> Result<(WireSet, WireSet), Fault>
         ensures { Tells self hidden place result }
     {

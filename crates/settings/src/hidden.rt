@@ -61,10 +61,7 @@ impl Hidden {
     pub fn settings(&self) -> Settings
         ensures { result ≡ settings self.now }
     {
-        Settings {
-            hidden: self.set,
-            next: Some(WireSet::EMPTY),
-        }
+        Settings::of(self.set)
     }
 
     // What reaches the inside under a setting: the input without the hidden wires, and the setting.

@@ -2,6 +2,7 @@
 ghost use Rattle.std.specs.Prelude.{◌≡◌, ◌<◌, ◌∷◌, true, ◌≢◌, length};
 ghost use Rattle.std.specs.Iterator.{YieldsFirstBy, at_most};
 ghost use Rattle.signals.specs.Sets.{subset};
+ghost use Rattle.parts.specs.Operators.{settings};
 ghost use Rattle.settings.specs.Tried.{untried};
 
 use signals::WireSet;
@@ -10,9 +11,9 @@ use std::marker::Model;
 // The settings that are left, by rising value. To contracts it is their list.
 #[derive(Drop)]
 pub struct Settings {
-    pub(crate) hidden: WireSet,
+    hidden: WireSet,
     // the setting that comes next, if one is left
-    pub(crate) next: Option<WireSet>,
+    next: Option<WireSet>,
 }
 
 impl Model for Settings {
@@ -25,6 +26,18 @@ impl Model for Settings {
     ghost view = { λ s. left s.hidden.bits s.next };
 
     ghost invariant = { λ s. is_within s.hidden.bits s.next ≡ true };
+}
+
+impl Settings {
+    // All settings of these hidden wires.
+    pub(crate) fn of(hidden: WireSet) -> Settings
+        ensures { result ≡ settings hidden.bits }
+    {
+        Settings {
+            hidden,
+            next: Some(WireSet::EMPTY),
+        }
+    }
 }
 
 // The least larger subset of the hidden wires.

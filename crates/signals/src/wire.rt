@@ -27,6 +27,7 @@ impl Model for Wire {
     ghost inverse = { λ n. record { number = n } };
 }
 
+// The wire of a number, if there is one.
 impl TryFrom<u8> for Wire {
     type Error = NoSuchWire;
 
@@ -41,6 +42,7 @@ impl TryFrom<u8> for Wire {
     }
 }
 
+// The wire's number.
 impl From<Wire> for u8 {
     ghost from_gives = { λ wire number. number ≡ wire };
 

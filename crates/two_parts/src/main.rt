@@ -9,7 +9,8 @@ use signals::WireSet;
 use signals::wire_set::WIRES;
 use std::io;
 
-// The wires A and B, and neither. A program shows itself whole, so these are its own, as in the tests.
+// The wires A and B, and neither. They are the program's own, as in the tests: in a crate below they would be public items,
+// with contracts and must-fail edits for a few constants.
 const A: WireSet = WireSet { bits: 1 };
 
 const B: WireSet = WireSet { bits: 2 };
@@ -63,6 +64,7 @@ fn print_fault(rt: &impl Print, tick: usize, fault: Fault) -> io::Result<()> {
 // Runs a part over the ticks, and prints a line for each accepted one and for the fault that ended the run.
 fn print_run<P: Part>(rt: &impl Print, part: &mut P, outputs: &mut [WireSet]) -> io::Result<()> {
     let report = run(part, &TICKS, outputs);
+    // with the index, from which the tick's number is printed
     for (i, set) in outputs.iter().take(report.ticks).enumerate() {
         print_tick(rt, i + 1, *set)?;
     }
@@ -86,6 +88,7 @@ fn print_calls<P: Part>(rt: &impl Print, part: &mut P) -> io::Result<()> {
     if let Err(fault) = perform(part, &CALLS, &mut replies) {
         return print_fault(rt, 1, fault);
     }
+    // with the index, from which the reply's number is printed
     for (i, reply) in replies.iter().enumerate() {
         print_reply(rt, i + 1, *reply)?;
     }
