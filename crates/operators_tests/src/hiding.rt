@@ -1,8 +1,8 @@
 // Encapsulation: every setting is tried, and exactly one has to be consistent.
 use crate::example::{A, B, C, END, FIRST, NONE, bit, on, without};
 use gates::Gate;
-use machines::Machine;
-use operators::{Encapsulation, Parallel};
+use machines::{Counter, Machine};
+use operators::{Encapsulation, Parallel, Refinement};
 use parts::{Fault, Part};
 use signals::WireSet;
 use std::test::Fail;
@@ -123,5 +123,56 @@ fn twelve_hidden_wires(rt: HostRuntime) -> Result<(), Fail> {
     // the number, and not the case: it is what people know, and the test is to show it
     assert_eq!(rt; unmade.refusal.number(), 16);
     assert_eq!(rt; unmade.inside.look(A), Ok(B));
+    Ok(())
+}
+
+// A counter inside: the bit's B is counted and hidden, and C comes at each fourth A. Hidden, its own wire does not come
+// out.
+#[test]
+fn a_counter_inside(rt: HostRuntime) -> Result<(), Fail> {
+    let counted = Parallel::new(bit(A, B)?, Counter::new(1, 2, 2)?);
+    let mut part = Encapsulation::new(B, 0, counted)?;
+    for _ in 1..4u8 {
+        assert_eq!(rt; part.step(A), Ok(NONE));
+    }
+    assert_eq!(rt; part.step(A), Ok(C));
+    let mut silent = Encapsulation::new(B, 0, Counter::new(0, 1, 2)?)?;
+    assert_eq!(rt; silent.step(A), Ok(NONE));
+    assert_eq!(rt; silent.step(A), Ok(NONE));
+    assert_eq!(rt; silent.wires_emitted(), NONE);
+    Ok(())
+}
+
+// Stage 1 holds the three bits, whose hidden END leads back to stage 0, and tells DONE. STOP leads back where END is not
+// there.
+#[test]
+fn an_inside_that_leaves_its_stage(rt: HostRuntime) -> Result<(), Fail> {
+    let start = WireSet { bits: 16 };
+    let done = WireSet { bits: 32 };
+    let stop = WireSet { bits: 64 };
+    let bits = Parallel::new(Parallel::new(bit(A, B)?, bit(B, C)?), bit(C, END)?);
+    let counter = Encapsulation::new(B.union(C), 4, bits)?;
+    let rules = [
+        on(start, 0, 1, NONE),
+        on(END, 1, 0, done),
+        without(stop, END, 1, 0, NONE),
+    ];
+    let refined = Refinement::new(1, Machine::new(2, &rules)?, counter);
+    let mut part = Encapsulation::new(END, 6, refined)?;
+    // the bits do not see the A of the tick that enters
+    assert_eq!(rt; part.step(start.union(A)), Ok(NONE));
+    for _ in 1..8u8 {
+        assert_eq!(rt; part.step(A), Ok(NONE));
+    }
+    // END and STOP in one tick: END leads back
+    assert_eq!(rt; part.step(A.union(stop)), Ok(done));
+    // in stage 0 the bits sleep
+    assert_eq!(rt; part.step(A), Ok(NONE));
+    // entered again, they count from 0
+    assert_eq!(rt; part.step(start), Ok(NONE));
+    for _ in 1..8u8 {
+        assert_eq!(rt; part.step(A), Ok(NONE));
+    }
+    assert_eq!(rt; part.step(A), Ok(done));
     Ok(())
 }

@@ -6,6 +6,8 @@ mod example;
 #[cfg(test)]
 mod hiding;
 #[cfg(test)]
+mod nests;
+#[cfg(test)]
 mod refining;
 #[cfg(test)]
 mod side_by_side;

@@ -3,10 +3,10 @@
 #![tactic(auto)]
 
 use machines::{Counter, Machine};
-use parts::{Call, Fault, Part, Reply, perform, run};
+use parts::{Call, Part, Reply, perform, run};
+use printing::{print_fault, print_reply, print_tick};
 use rules::Rule;
 use signals::WireSet;
-use signals::wire_set::WIRES;
 use std::io;
 
 // The wires A and B, and neither. They are the program's own, as in the tests: in a crate below they would be public items,
@@ -45,22 +45,6 @@ const BIT: [Rule; 2] = [
     },
 ];
 
-// A tick's line: its number, and the wires that it emits, or a hyphen.
-fn print_tick(rt: &impl Print, tick: usize, outputs: WireSet) -> io::Result<()> {
-    print!(rt; "{tick}")?;
-    for wire in (0..WIRES).filter(|&wire| outputs.contains(wire)) {
-        print!(rt; " {wire}")?;
-    }
-    if outputs == WireSet::EMPTY {
-        print!(rt; " -")?;
-    }
-    println!(rt; "")
-}
-
-fn print_fault(rt: &impl Print, tick: usize, fault: Fault) -> io::Result<()> {
-    println!(rt; "{tick} {fault}")
-}
-
 // Runs a part over the ticks, and prints a line for each accepted one and for the fault that ended the run.
 fn print_run<P: Part>(rt: &impl Print, part: &mut P, outputs: &mut [WireSet]) -> io::Result<()> {
     let report = run(part, &TICKS, outputs);
@@ -72,14 +56,6 @@ fn print_run<P: Part>(rt: &impl Print, part: &mut P, outputs: &mut [WireSet]) ->
         return Ok(());
     };
     print_fault(rt, report.ticks + 1, fault)
-}
-
-fn print_reply(rt: &impl Print, number: usize, reply: Reply) -> io::Result<()> {
-    match reply {
-        Reply::Answer(Ok(outputs)) => print_tick(rt, number, outputs),
-        Reply::Answer(Err(fault)) => print_fault(rt, number, fault),
-        Reply::Restarted => println!(rt; "{number} restarted"),
-    }
 }
 
 // Performs the calls on a part, and prints a line for each reply.
