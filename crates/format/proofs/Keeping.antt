@@ -1,5 +1,5 @@
 -- Counting and keeping the commands of a recipe as they are read: what is known so far, and one command more. Assumes nothing.
-use Rattle.std.proofs.Common.{◌≡◌, ℕ, ◌+◌, ◌^◌, ◌<◌, ◌≤◌, Bool, true, false, List, [], ◌∷◌, ◌++◌, map, length, get_or, drop, Some, None, Ok, Err, Result, sym, ap, ◌∙◌, subst, inl, append_assoc, append-nil, arith, w8, Fits}
+use Rattle.std.proofs.Common.{◌≡◌, ℕ, ◌+◌, ◌^◌, ◌<◌, ◌≤◌, Bool, true, false, List, [], ◌∷◌, ◌++◌, map, length, get_or, drop, Some, None, Ok, Err, Result, sym, refl, ap, ◌∙◌, subst, inl, append_assoc, append-nil, arith, w8, Fits}
 use Rattle.std.proofs.ByRecursion.{All-drop, All-from_get_or}
 use Rattle.std.proofs.lemmas.List.{flat_map_more, length-append, map-append}
 use Rattle.std.proofs.lemmas.Bool.{cond-true, cond-false}
@@ -7,7 +7,7 @@ use Rattle.format.specs.Commands.{Word, encode, encode_all, extent, today}
 use Rattle.format.specs.Reading.{Read, got, refused, first_read, is_end, before, read_all}
 use Rattle.format.specs.Recipes.{Bytes, followed}
 use Rattle.format.specs.Values.{Address, behind, word, Lies, NamesLie, answer, taken, counted, RefusedBy}
-use Rattle.format.specs.Stepping.{Steps}
+use Rattle.format.specs.Stepping.{is_last, Reads, Steps}
 use Rattle.format.specs.declared.command.Command.{Command}
 use Rattle.format.specs.declared.commands.Commands.{Commands}
 use Rattle.format.specs.declared.reader.Reader.{Reader}
@@ -55,7 +55,7 @@ pub record Sofar (bs : List ℕ) (place : Address) (s : Commands) (cs : List Com
 behind_behind : (place : Address) (m n : ℕ) → behind (behind place m) n ≡ behind place (m + n)
 behind_behind place m n = let e : n + (m + place.1) ≡ m + n + place.1 = omega arith in ap (λ (o : ℕ). (place.0, o)) e
 
-behind_none : (place : Address) → place ≡ behind place 0
+pub behind_none : (place : Address) → place ≡ behind place 0
 behind_none place = let e : place.1 ≡ 0 + place.1 = omega arith in ap (λ (o : ℕ). (place.0, o)) e
 
 extent_more : (ws : List Word) (w : Word) → extent today (ws ++ w ∷ []) ≡ extent today ws + length (encode today w)
@@ -71,23 +71,23 @@ lie_more place (d ∷ cs) c h l =
 
 -- ---- one command more
 module _ (bs : List ℕ) (ws : List Word) (rest : List ℕ) (position : ℕ) (so : Walked bs ws rest position) where
-  walk_stopped : (r : Refusal) → first_read today rest ≡ refused r → read_all today bs ≡ record { words = ws; ending = Some r }
+  pub walk_stopped : (r : Refusal) → first_read today rest ≡ refused r → read_all today bs ≡ record { words = ws; ending = Some r }
   walk_stopped r e = so.read ∙ ap (followed ws) (read_refused today rest r e) ∙ ap (λ t. record { words = t; ending = Some r }) (append-nil ws)
 
   module _ (w : Word) (n : ℕ) (is : first_read today rest ≡ got w n) where
     taken_here : Taken today rest w n
     taken_here = subst (Sound today rest) is (first_sound today rest so.bytes)
 
-    some : 0 < n
+    pub some : 0 < n
     some = omega (arith, taken_here.long)
 
-    enough : n ≤ length rest
+    pub enough : n ≤ length rest
     enough = omega (arith, taken_here.long, ap length taken_here.same, length-append (encode today w) (drop n rest))
 
     on : read_all today bs ≡ followed ws (before w (read_all today (drop n rest)))
     on = so.read ∙ ap (followed ws) (read_step today rest w n is some)
 
-    walk_more : (rest' : List ℕ) (position' : ℕ) → is_end w ≡ false → rest' ≡ drop n rest → position' ≡ position + n → Walked bs (ws ++ w ∷ []) rest' position'
+    pub walk_more : (rest' : List ℕ) (position' : ℕ) → is_end w ≡ false → rest' ≡ drop n rest → position' ≡ position + n → Walked bs (ws ++ w ∷ []) rest' position'
     walk_more rest' position' other same at =
         let r = read_all today (drop n rest) in
         record {
@@ -99,17 +99,21 @@ module _ (bs : List ℕ) (ws : List Word) (rest : List ℕ) (position : ℕ) (so
           bytes = subst Bytes (sym same) (All-drop (λ b. b < 256) n rest so.bytes);
         }
 
-    walk_done : is_end w ≡ true → read_all today bs ≡ record { words = ws ++ w ∷ []; ending = None }
+    pub walk_done : is_end w ≡ true → read_all today bs ≡ record { words = ws ++ w ∷ []; ending = None }
     walk_done e = on ∙ ap (followed ws) (cond-true (is_end w) _ _ e)
 
 -- each command has a byte at least
-few_words : (ws : List Word) → length ws ≤ extent today ws
+pub few_words : (ws : List Word) → length ws ≤ extent today ws
 few_words [] = omega arith
 few_words (w ∷ ws) = omega (arith, few_words ws, length-append (encode today w) (encode_all today ws))
 
 -- what a step gave, by another word for it
 pub step_is : {read read' : Result Command RecipeError} (s t : Commands) → read ≡ read' → Steps s (Some read) t → Steps s (Some read') t
 step_is s t same step = subst (λ r. Steps s (Some r) t) same step
+
+-- a read is a step of a recipe's commands that have not ended
+pub read_steps : (s : Reader) (read : Result Command RecipeError) (t : Reader) → Reads s read t → Steps (record { reader = s; ended = false }) (Some read) (record { reader = t; ended = is_last read })
+read_steps s read t r = (refl, r, refl)
 
 -- ---- one step more
 module _ (bs : List ℕ) (ws : List Word) (s : Commands) (so : Given s.ended bs ws s.reader) where
@@ -164,6 +168,10 @@ module _ (bs : List ℕ) (s : Commands) (count : ℕ) (so : Counting bs s count)
         many = omega (arith, so.many, length-append so.words (word c ∷ []));
       }
 
+      -- where it is not the last
+      pub count_on : t.ended ≡ false → Counting bs (record { reader = t.reader; ended = false }) (count + 1)
+      count_on on = subst (λ b. Counting bs (record { reader = t.reader; ended = b }) (count + 1)) on count_more
+
 -- ---- one command more that is kept
 module _ (bs : List ℕ) (place : Address) (s : Commands) (cs : List Command) (so : Sofar bs place s cs) where
   module _ (t : Commands) where
@@ -182,3 +190,7 @@ module _ (bs : List ℕ) (place : Address) (s : Commands) (cs : List Command) (s
           from = read.place ∙ ap (λ p. behind p n) so.from ∙ behind_behind place s.reader.position n ∙ ap (behind place) (sym read.position);
           names = lie_more place cs c so.names (subst (λ p. Lies (behind p 1) c) (so.from ∙ ap (behind place) so_walked.at) read.name);
         }
+
+    -- where it is not the last
+    pub kept_on : (c : Command) → Steps s (Some (Ok c)) t → t.ended ≡ false → Sofar bs place (record { reader = t.reader; ended = false }) (cs ++ c ∷ [])
+    kept_on c step on = subst (λ b. Sofar bs place (record { reader = t.reader; ended = b }) (cs ++ c ∷ [])) on (kept_more c step)

@@ -87,7 +87,7 @@ unwrap_or-position bs =
 
 -- ---- a name in its field
 module _ (field : List ℕ) (n : ℕ) (is : n ≡ length (before_zero field)) where
-  name_read_is : take n field ≡ before_zero field
+  pub name_read_is : take n field ≡ before_zero field
   name_read_is = ap (λ k. take k field) is ∙ ap (take (length (before_zero field))) (sym (split field)) ∙ take_at (before_zero field) _ _ refl
 
   fill_is : take (length field - n) (drop n field) ≡ drop (length (before_zero field)) field

@@ -6,7 +6,7 @@ ghost use Rattle.format.specs.Recipes.{Whole};
 ghost use Rattle.format.specs.Values.{word, counted, NamesLie, RefusedBy};
 
 use crate::command::Command;
-use crate::commands::Commands;
+use crate::reader::Reader;
 use crate::refusal::RecipeError;
 use std::alloc::Global;
 
@@ -18,12 +18,17 @@ pub fn count_commands(recipe: &[u8]) -> Result<usize, RecipeError>
     ensures value { result ≡ counted (read_all today recipe.now) }
     ensures law { Whole today recipe.now (read_all today recipe.now) }
 {
+    let mut reader = Reader::new(recipe);
     let mut count = 0;
-    for command in Commands::new(recipe) {
-        command?;
+    // A loop over the reader, here and below, and no `for` over `Commands`: with that, a recipe of short commands took
+    // half as much time again.
+    loop {
+        let command = reader.read()?;
         count += 1;
+        if command.is_end() {
+            return Ok(count);
+        }
     }
-    Ok(count)
 }
 
 // The commands of a whole recipe, END last. A refusal is told whatever memory there is.
@@ -34,8 +39,12 @@ pub fn read_commands<'a>(heap: Global, recipe: &'a [u8]) -> Result<Vec<Command<'
 {
     let count = count_commands(recipe)?;
     let mut commands = Vec::with_capacity(heap, count)?;
-    for command in Commands::new(recipe) {
-        commands.push(command?)?;
+    let mut reader = Reader::new(recipe);
+    loop {
+        let command = reader.read()?;
+        commands.push(command)?;
+        if command.is_end() {
+            return Ok(commands);
+        }
     }
-    Ok(commands)
 }

@@ -1,6 +1,6 @@
 // Reading: each refusal at its position, at every boundary of the operands.
 use format::recipe::read_commands;
-use format::{Command, Reader, RecipeError};
+use format::{Command, Commands, Reader, RecipeError};
 use std::process::Abort;
 use std::test::*;
 
@@ -159,4 +159,28 @@ fn behind_end_no_byte_is_left(rt: HostRuntime) -> Result<(), Fail> {
     assert_eq!(rt; refusal(&mut reader), Some((1, 2)));
     assert_eq!(rt; refusal(&mut reader), Some((1, 2)));
     Ok(())
+}
+
+// How many commands are given, and the refusal behind them.
+fn given(recipe: &[u8]) -> (usize, Option<(u8, usize)>) {
+    let mut count = 0usize;
+    for command in Commands::new(recipe) {
+        match command {
+            Ok(_) => count = count.saturating_add(1),
+            Err(error) => return (count, Some(numbered(error))),
+        }
+    }
+    (count, None)
+}
+
+#[test]
+fn commands_one_by_one(rt: HostRuntime) {
+    assert_eq!(rt; given(b"\x04\x02\x01\x08"), (3, None));
+    assert_eq!(rt; given(b"\x04\x04\x09\x08"), (2, Some((2, 2))));
+    assert_eq!(rt; given(b""), (0, Some((1, 0))));
+    // it ends with its refusal
+    let mut commands = Commands::new(b"\x04\x00");
+    assert!(rt; matches!(commands.next(), Some(Ok(Command::Par))));
+    assert!(rt; matches!(commands.next(), Some(Err(_))));
+    assert!(rt; commands.next().is_none());
 }

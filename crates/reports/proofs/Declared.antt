@@ -12,7 +12,7 @@ use Rattle.format.specs.declared.command.Command.TheVariants.{Wire, Machine, Rul
 use Rattle.reports.specs.Names.{shown, Spelled, name_ref, name_refs, name_of, names_of}
 
 -- the names by reference are the names by value
-one_name : (c : Command) (refs : List (Bor (List ℕ))) (names : List (List ℕ)) → map shown refs ≡ names → map shown (cons_option (name_ref c) refs) ≡ cons_option (name_of (word c)) names
+pub one_name : (c : Command) (refs : List (Bor (List ℕ))) (names : List (List ℕ)) → map shown refs ≡ names → map shown (cons_option (name_ref c) refs) ≡ cons_option (name_of (word c)) names
 one_name (Wire name) refs names h = ap (λ t. name.now ∷ t) h
 one_name (Machine n) refs names h = h
 one_name (Rule r) refs names h = h

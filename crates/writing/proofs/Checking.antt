@@ -1,5 +1,5 @@
 -- The first refusal of a recipe that is to be rewritten, found command by command. Assumes nothing.
-use Rattle.std.proofs.Common.{◌≡◌, ℕ, ◌+◌, ◌<◌, ◌≤◌, Bool, true, false, List, length, drop, Some, Ok, Err, Option, sym, ap, ◌∙◌, subst, arith}
+use Rattle.std.proofs.Common.{◌≡◌, ℕ, ◌+◌, ◌<◌, ◌≤◌, Bool, true, false, List, length, drop, Some, None, Ok, Err, Option, sym, ap, ◌∙◌, subst, arith}
 use Rattle.std.proofs.ByRecursion.{All-drop}
 use Rattle.std.proofs.lemmas.List.{length-append, length-drop}
 use Rattle.std.proofs.lemmas.Bool.{cond-true, cond-false, cond_both}
@@ -50,7 +50,7 @@ module _ {bs rest : List ℕ} {position : ℕ} {within : Bool} (h : Clear bs res
     pub clear_taken : Taken today rest w t.size
     clear_taken = subst (Sound today rest) t.is (first_sound today rest h.bytes)
 
-    clear_some : 0 < t.size
+    pub clear_some : 0 < t.size
     clear_some = omega (arith, clear_taken.long)
 
     pub clear_within : t.size ≤ length rest
@@ -66,6 +66,9 @@ module _ {bs rest : List ℕ} {position : ℕ} {within : Bool} (h : Clear bs res
     clear_misplaced stray =
         step ∙ cond_both (is_end w) _ _ (λ r. refusal_from position within r ≡ Some (record { refusal = MisplacedRule; position = position }))
         (λ _. cond-true (misplaced within w) _ _ stray) (λ _. cond-true (misplaced within w) _ _ stray)
+
+    pub clear_end : misplaced within w ≡ false → is_end w ≡ true → refusal_of bs ≡ None
+    clear_end placed e = step ∙ ap (refusal_from position within) (cond-true (is_end w) _ _ e) ∙ cond-false (misplaced within w) _ _ placed
 
     pub clear_more : misplaced within w ≡ false → is_end w ≡ false → Clear bs rest' position' (opens w)
     clear_more placed e =

@@ -43,7 +43,7 @@ module _ {bs out rest : List ℕ} {position pen : ℕ} {within : Bool} {after : 
   known : Taken today rest w t.size
   known = clear_taken h.clear t
 
-  in_place : misplaced within w ≡ false
+  pub in_place : misplaced within w ≡ false
   in_place = ⊎_elim
       (λ stray. absurd (some_none _ (sym (clear_misplaced h.clear t stray) ∙ h.none)))
       (λ placed_is. placed_is)
@@ -52,7 +52,7 @@ module _ {bs out rest : List ℕ} {position pen : ℕ} {within : Bool} {after : 
   within_rest : t.size ≤ length rest
   within_rest = clear_within h.clear t
 
-  room_here : position + t.size ≤ length bs
+  pub room_here : position + t.size ≤ length bs
   room_here = omega (arith, within_rest, ap length h.rest_is, length-drop position bs, h.within_bs)
 
   piece : encode today w ≡ take t.size (drop position bs)
@@ -71,12 +71,12 @@ module _ {bs out rest : List ℕ} {position pen : ℕ} {within : Bool} {after : 
   fit = le-leb _ _ (omega (arith, after_long, h.room, room_here, known.long, h.at))
 
   -- the write is accepted, and the output's front has grown by the command
-  answer_is : write_answer w pen after ≡ Ok position'
+  pub answer_is : write_answer w pen after ≡ Ok position'
   answer_is =
       let e : pen + length (encode today w) ≡ position' = omega (arith, known.long, h.at, t.at) in
       cond-true (well_named w) _ _ named ∙ cond-true (fits pen (encode today w) after) _ _ fit ∙ ap Ok e
 
-  output_is : written w pen after ≡ take position' bs ++ drop position' out
+  pub output_is : written w pen after ≡ take position' bs ++ drop position' out
   output_is =
       cond-true (well_named w) _ _ named ∙ cond-true (fits pen (encode today w) after) _ _ fit
       ∙ (λ i. placed (h.at i) (encode today w) (h.after_is i))

@@ -1,6 +1,9 @@
-use Rattle.std.proofs.Common.{vec_items}
+use Rattle.std.proofs.Common.{false, length, vec_items}
 use Rattle.format.proofs.Keeping.{Sofar}
 use Rattle.format.proofs.recipe.read_commands.Given as goal
 
-abbrev pub invariant-loop-command : goal.invariant-loop-command
-invariant-loop-command l = Sofar l.recipe l.initial.command-iterator.reader.rest.ref_ptr l.command-iterator (vec_items l.commands)
+abbrev pub invariant-loop-commands : goal.invariant-loop-commands
+invariant-loop-commands l = Sofar l.recipe l.initial.reader.rest.ref_ptr (record { reader = l.reader; ended = false }) (vec_items l.commands)
+
+abbrev pub decreases-loop-commands : goal.decreases-loop-commands
+decreases-loop-commands l = length l.reader.rest.now
