@@ -114,7 +114,12 @@ impl Part for Counter {
     fn step(&mut self, input: WireSet) -> Result<WireSet, Fault> {
         let answer = self.look(input);
         if self.counts(input) {
-            self.tally = (self.tally + 1) % self.number;
+            // a comparison and no remainder, which would divide at each counted tick
+            self.tally = if self.tally + 1 == self.number {
+                0
+            } else {
+                self.tally + 1
+            };
         }
         answer
     }
