@@ -4,6 +4,7 @@ use gates::Gate;
 use machines::{Counter, Machine};
 use operators::{Encapsulation, Parallel, Refinement};
 use parts::{Fault, Part};
+use settings::Hidden;
 use signals::WireSet;
 use std::test::Fail;
 
@@ -174,5 +175,20 @@ fn an_inside_that_leaves_its_stage(rt: HostRuntime) -> Result<(), Fail> {
         assert_eq!(rt; part.step(A), Ok(NONE));
     }
     assert_eq!(rt; part.step(A), Ok(done));
+    Ok(())
+}
+
+// The settings of A and C by rising value; a copy of what is left goes on by itself.
+#[test]
+fn settings_copied_half_way(rt: HostRuntime) -> Result<(), Fail> {
+    let mut settings = Hidden::try_from(A.union(C))?.settings();
+    assert_eq!(rt; settings.next(), Some(NONE));
+    let mut copied = settings;
+    assert_eq!(rt; settings.next(), Some(A));
+    assert_eq!(rt; settings.next(), Some(C));
+    assert_eq!(rt; copied.next(), Some(A));
+    assert_eq!(rt; settings.next(), Some(A.union(C)));
+    assert_eq!(rt; settings.next(), None);
+    assert_eq!(rt; copied.next(), Some(C));
     Ok(())
 }

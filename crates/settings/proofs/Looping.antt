@@ -21,7 +21,7 @@ module _ (h : ℕ) (f : ℕ → Answer ℕ) where
   settles_fewer s (Ok o) ps e = subst (λ qs. length qs ≤ 1) (ok_same (Ok (hit h s o)) _ _ refl e) (one_at_most (intersection o h == s) (s, o))
   settles_fewer s (Err d) ps e = absurd (ok_not _ ps d e refl)
 
-  settled_fewer : (xs : List ℕ) (ps : List (ℕ × ℕ)) → settled h f xs ≡ Ok ps → length ps ≤ length xs
+  pub settled_fewer : (xs : List ℕ) (ps : List (ℕ × ℕ)) → settled h f xs ≡ Ok ps → length ps ≤ length xs
   settled_fewer [] ps e = omega (arith, ap length (ok_same _ [] ps refl e))
   settled_fewer (x ∷ xs) ps e =
       let b = both_ok ◌++◌ (settles h x (f x)) (settled h f xs) ps e in

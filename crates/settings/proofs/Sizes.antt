@@ -36,7 +36,7 @@ no_ones : ones 0 ≡ 0
 unfolding ones
 no_ones = refl
 
-ones_wires : (k a : ℕ) → a < 2 ^ k → count_by (λ w. has a w) (range_with_len 0 k) ≡ ones a
+pub ones_wires : (k a : ℕ) → a < 2 ^ k → count_by (λ w. has a w) (range_with_len 0 k) ≡ ones a
 ones_wires zero a b = let none : a ≡ 0 = omega arith in sym (ap ones none ∙ no_ones)
 ones_wires (suc k) a b =
     count_cons (λ w. has a w) 0 (range_with_len 1 k)
@@ -102,7 +102,7 @@ doubling x r l = ⊎_elim
     (λ z. let e : r ≡ 1 = omega arith in ap (λ n. 2 ^ x * (1 + n)) e ∙ sym (pow-suc 2 x) ∙ ap (λ n. 2 ^ n) (omega arith))
     (cases_lt r 1)
 
-subsets : (k h : ℕ) → h < 2 ^ k → count_by (λ s. subset s h) (range_with_len 0 (2 ^ k)) ≡ 2 ^ ones h
+pub subsets : (k h : ℕ) → h < 2 ^ k → count_by (λ s. subset s h) (range_with_len 0 (2 ^ k)) ≡ 2 ^ ones h
 subsets zero h b = let none : h ≡ 0 = omega arith in sym (ap (λ n. 2 ^ n) (ap ones none ∙ no_ones))
 subsets (suc k) h b =
     ap (λ m. count_by (λ s. subset s h) (range_with_len 0 m)) (pow-suc 2 k)
@@ -112,7 +112,7 @@ subsets (suc k) h b =
     ∙ ap (λ m. 2 ^ m) (sym (ones_step h))
 
 -- no setting is above the hidden wires
-settings_ones : (k h : ℕ) → h < 2 ^ k → length (settings h) ≡ 2 ^ ones h
+pub settings_ones : (k h : ℕ) → h < 2 ^ k → length (settings h) ≡ 2 ^ ones h
 settings_ones k h b =
     let m : ℕ = 2 ^ k - suc h in
     let test : ℕ → Bool = λ s. subset s h in

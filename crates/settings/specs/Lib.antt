@@ -2,3 +2,4 @@ pub mod Tried
 pub mod Hiding
 pub mod Findings
 pub mod Found
+pub mod Left

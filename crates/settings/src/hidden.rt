@@ -3,6 +3,7 @@ ghost use Rattle.std.specs.Prelude.{◌≡◌, ◌≤◌};
 ghost use Rattle.parts.specs.Operators.{settings, under};
 ghost use Rattle.settings.specs.Tried.{size};
 ghost use Rattle.settings.specs.Hiding.{too_many_hidden, HidesFew};
+ghost use Rattle.settings.specs.Left.{settings_left};
 
 use crate::settings::Settings;
 use signals::WireSet;
@@ -59,7 +60,7 @@ impl Hidden {
 
     // The settings of the hidden wires: all subsets of them, by rising value.
     pub fn settings(&self) -> Settings
-        ensures { result ≡ settings self.now }
+        ensures { settings_left result ≡ settings self.now }
     {
         Settings::of(self.set)
     }

@@ -1,37 +1,26 @@
 // The settings of hidden wires.
-ghost use Rattle.std.specs.Prelude.{◌≡◌, ◌<◌, ◌∷◌, true, ◌≢◌, length};
-ghost use Rattle.std.specs.Iterator.{YieldsFirstBy, at_most};
+ghost use Rattle.std.specs.Prelude.{◌≡◌, ◌<◌, ◌∷◌, true, ◌≢◌};
 ghost use Rattle.signals.specs.Sets.{subset};
 ghost use Rattle.parts.specs.Operators.{settings};
-ghost use Rattle.settings.specs.Tried.{untried};
+ghost use Rattle.settings.specs.Tried.{untried, is_within};
 
 use signals::WireSet;
-use std::marker::Model;
 
-// The settings that are left, by rising value. To contracts it is their list.
-#[derive(Drop)]
+// The settings that are left, by rising value. A copy of them goes on by itself.
+#[derive(Clone, Copy)]
 pub struct Settings {
     hidden: WireSet,
     // the setting that comes next, if one is left
     next: Option<WireSet>,
-}
-
-impl Model for Settings {
-    ghost use Rattle.std.specs.Prelude.{◌≡◌, ℕ, List, true};
-
-    ghost Value = { List ℕ };
-
-    ghost use Rattle.settings.specs.Tried.{left, is_within};
-
-    ghost view = { λ s. left s.hidden.bits s.next };
-
-    ghost invariant = { λ s. is_within s.hidden.bits s.next ≡ true };
+    ghost within: { is_within hidden.bits next ≡ true },
 }
 
 impl Settings {
+    ghost use Rattle.settings.specs.Left.{settings_left};
+
     // All settings of these hidden wires.
     pub(crate) fn of(hidden: WireSet) -> Settings
-        ensures { result ≡ settings hidden.bits }
+        ensures { settings_left result ≡ settings hidden.bits }
     {
         Settings {
             hidden,
@@ -54,11 +43,15 @@ fn next_setting(hidden: WireSet, setting: WireSet) -> WireSet
 }
 
 impl Iterator for Settings {
+    ghost use Rattle.std.specs.Prelude.{length};
+    ghost use Rattle.std.specs.Iterator.{YieldsFirstBy, at_most};
+    ghost use Rattle.settings.specs.Left.{settings_left};
+
     type Item = WireSet;
 
-    ghost next_gives = { YieldsFirstBy (λ setting. setting.bits) (λ s. s) };
+    ghost next_gives = { YieldsFirstBy (λ setting. setting.bits) settings_left };
 
-    ghost remaining = { λ s. at_most (length s) };
+    ghost remaining = { λ s. at_most (length (settings_left s)) };
 
     fn next(&mut self) -> Option<WireSet> {
         let setting = self.next?;
