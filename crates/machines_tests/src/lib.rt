@@ -9,6 +9,8 @@ mod counting;
 #[cfg(test)]
 mod example;
 #[cfg(test)]
+mod lines;
+#[cfg(test)]
 mod making;
 #[cfg(test)]
 mod moving;

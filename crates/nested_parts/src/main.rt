@@ -6,7 +6,7 @@ use anyhow::{anyhow, bail};
 use machines::{Counter, Machine};
 use nesting::{Numbers, perform_nested};
 use parts::{Call, Reply};
-use printing::reply_line;
+use printing::ReplyLine;
 use rules::Rule;
 use signals::WireSet;
 
@@ -80,7 +80,7 @@ fn machine(states: u8, rules: &[Rule]) -> anyhow::Result<Machine> {
 }
 
 // Performs the calls on a new nesting with these rules inside, and prints a line for each reply.
-fn print_nested(rt: &(impl Print + AllocGlobal), rules: &[Rule]) -> anyhow::Result<()> {
+fn print_nested(rt: &impl Print, rules: &[Rule]) -> anyhow::Result<()> {
     let numbers = Numbers {
         wire: PAUSE,
         stage: 1,
@@ -98,7 +98,10 @@ fn print_nested(rt: &(impl Print + AllocGlobal), rules: &[Rule]) -> anyhow::Resu
     }
     // with the index, from which the call's number is printed
     for (i, reply) in replies.iter().enumerate() {
-        rt.print(reply_line(rt.alloc(), i + 1, *reply)?)?;
+        rt.print(ReplyLine {
+            number: i + 1,
+            reply: *reply,
+        })?;
     }
     Ok(())
 }

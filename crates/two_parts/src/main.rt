@@ -4,7 +4,7 @@
 
 use machines::{Counter, Machine};
 use parts::{Call, Part, Reply, perform, run};
-use printing::{refused_line, reply_line, tick_line};
+use printing::{RefusedLine, ReplyLine, TickLine};
 use rules::Rule;
 use signals::WireSet;
 use std::io;
@@ -46,36 +46,41 @@ const BIT: [Rule; 2] = [
 ];
 
 // Runs a part over the ticks, and prints a line for each accepted one and for the fault that ended the run.
-fn print_run<P: Part>(
-    rt: &(impl Print + AllocGlobal),
-    part: &mut P,
-    outputs: &mut [WireSet],
-) -> io::Result<()> {
+fn print_run<P: Part>(rt: &impl Print, part: &mut P, outputs: &mut [WireSet]) -> io::Result<()> {
     let report = run(part, &TICKS, outputs);
     // with the index, from which the tick's number is printed
     for (i, set) in outputs.iter().take(report.ticks).enumerate() {
-        rt.print(tick_line(rt.alloc(), i + 1, *set)?)?;
+        rt.print(TickLine {
+            tick: i + 1,
+            outputs: *set,
+        })?;
     }
     let Some(fault) = report.fault else {
         return Ok(());
     };
-    rt.print(refused_line(rt.alloc(), report.ticks + 1, fault)?)
+    rt.print(RefusedLine {
+        tick: report.ticks + 1,
+        fault,
+    })
 }
 
 // Performs the calls on a part, and prints a line for each reply.
-fn print_calls<P: Part>(rt: &(impl Print + AllocGlobal), part: &mut P) -> io::Result<()> {
+fn print_calls<P: Part>(rt: &impl Print, part: &mut P) -> io::Result<()> {
     let mut replies = [Reply::Restarted; CALLS.len()];
     if let Err(fault) = perform(part, &CALLS, &mut replies) {
-        return rt.print(refused_line(rt.alloc(), 1, fault)?);
+        return rt.print(RefusedLine { tick: 1, fault });
     }
     // with the index, from which the reply's number is printed
     for (i, reply) in replies.iter().enumerate() {
-        rt.print(reply_line(rt.alloc(), i + 1, *reply)?)?;
+        rt.print(ReplyLine {
+            number: i + 1,
+            reply: *reply,
+        })?;
     }
     Ok(())
 }
 
-fn print_both(rt: &(impl Print + AllocGlobal)) -> anyhow::Result<()> {
+fn print_both(rt: &impl Print) -> anyhow::Result<()> {
     let mut bit = Machine::new(2, &BIT).unwrap();
     rt.println("machine: from 0 to 1 on wire 0; from 1 to 0 on wire 0, emitting wire 1")?;
     print_run(rt, &mut bit, &mut [NONE; TICKS.len()])?;
